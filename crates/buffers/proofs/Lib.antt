@@ -1,0 +1,3 @@
+-- The laws of copies and of conversions.
+pub mod Copies
+pub mod Changes

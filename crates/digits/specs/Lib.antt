@@ -1,0 +1,3 @@
+-- Numbers, their digits and their bytes.
+pub mod Digits
+pub mod Engine

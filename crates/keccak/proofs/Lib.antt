@@ -1,0 +1,4 @@
+mod Bits
+mod Shape
+mod Complement
+pub mod Determined

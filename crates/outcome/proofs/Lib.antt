@@ -1,0 +1,2 @@
+-- A promise permits one outcome.
+pub mod One

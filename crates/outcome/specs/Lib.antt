@@ -1,0 +1,2 @@
+-- What a public function promises.
+pub mod Outcome

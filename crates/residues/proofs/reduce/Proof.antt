@@ -1,0 +1,61 @@
+-- Of a negative r the machine takes -1 - r, which is r's number under `negsuc`.
+use mathlib.Core.Path.{_≡_, sym, ap, subst, _∙_}
+use mathlib.Core.Bool.{true, false}
+use Prim.Native.Nat.{_-_}
+use native.Mathlib.Nat.{mod-lt}
+use native.Mathlib.Omega.{arith}
+use borrow.Author.Needs.{needs}
+use lib.IntN.{ℤ, pos, negsuc, _-ℤ_}
+use lib.Signed.{mag, ltZ, natAbs-le}
+use mir.Syntax.{w32}
+use mir.Val.{SFits, toZ, ofZ}
+use Rattle.residues.proofs.Machine.{back, below-zero, not-neg, residue-below, residue-above}
+use Rattle.residues.proofs.reduce.Statement.{statement}
+use Rattle.residues.proofs.reduce.Tie as tie
+
+sign : (c : tie.Then1) → ltZ (c .before .args .r) (pos 0) ≡ true
+sign c = sym (ap (λ (y : ℤ). ltZ y (pos 0)) (back w32 (c .before .fits .r))) ∙ c .if1 .taken
+
+sub-k : tie.Need-sub-k
+sub-k c =
+    let f = c .before .fits .r in
+    subst (SFits w32) (sym (below-zero f (c .if1 .taken))) (record { sfits = f .sfits })
+
+-- the number k that is cast
+k-is : (c : tie.Then1) → toZ w32 (ofZ w32 (negsuc 0 -ℤ toZ w32 (ofZ w32 (c .before .args .r)))) ≡ pos (mag (c .before .args .r))
+k-is c = back w32 (sub-k c) ∙ below-zero (c .before .fits .r) (c .if1 .taken)
+
+cast-k : tie.Need-cast-k
+cast-k c = simp (k-is c) (tt, record { fits = omega (arith, c .before .fits .r .sfits) })
+
+sub-result : tie.Need-sub-result
+sub-result c = search needs
+
+rem-result : tie.Need-rem-result
+rem-result c = search needs
+
+rem-result-2 : tie.Need-rem-result-2
+rem-result-2 c = search needs
+
+sub-result-2 : tie.Need-sub-result-2
+sub-result-2 c =
+    let l = mod-lt (mag (c .before .args .r)) (c .before .pre) in
+    simp (k-is c) (omega arith)
+
+sign-2 : (c : tie.Else1) → ltZ (c .before .args .r) (pos 0) ≡ false
+sign-2 c = sym (ap (λ (y : ℤ). ltZ y (pos 0)) (back w32 (c .before .fits .r))) ∙ c .if1 .left
+
+cast-result : tie.Need-cast-result
+cast-result c =
+    simp (back w32 (c .before .fits .r))
+    (not-neg (c .before .args .r) (sign-2 c), record { fits = omega (arith, natAbs-le (c .before .args .r) (c .before .fits .r .sfits)) })
+
+returns : tie.Need-returns
+returns c = simp (k-is c) (sym (residue-below (c .before .args .q) (c .before .args .r) (sign c)))
+
+returns-2 : tie.Need-returns-2
+returns-2 c = simp (back w32 (c .before .fits .r)) (sym (residue-above (c .before .args .q) (c .before .args .r) (sign-2 c)))
+
+pub reduce-spec : {M : Type 1} → statement M
+reduce-spec =
+    tie.close (tie.spec sub-k cast-k sub-result rem-result sub-result-2 cast-result rem-result-2 returns returns-2)

@@ -1,0 +1,2 @@
+-- The definitions of remainders.
+pub mod Remainder

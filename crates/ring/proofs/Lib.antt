@@ -1,0 +1,22 @@
+-- The laws of the ring.
+pub mod Sums
+pub mod Algebra
+pub mod Trinomial
+pub mod Powers
+pub mod Prime
+pub mod Bound
+pub mod PrimeBound
+pub mod Rings
+pub mod Lists
+pub mod Modulo
+pub mod Reindex
+pub mod Verify
+pub mod Filling
+pub mod Adding
+pub mod Padding
+pub mod Rowing
+pub mod Folding
+pub mod Engine
+pub mod Signed
+pub mod Calling
+pub mod First

@@ -1,0 +1,3 @@
+-- The rounding and hint rules.
+pub mod Rounding
+pub mod Used

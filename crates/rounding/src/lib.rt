@@ -1,0 +1,108 @@
+// The rounding and hint rules (002, Algorithms 2 to 7), over remainders, for any set.
+pub mod level1;
+
+use sets::numbers::Numbers;
+ghost use mathlib.Core.Path.{_≡_};
+ghost use Prim.Native.Nat.{ℕ, _<_, _≤_};
+ghost use lib.IntN.{pos, natAbs};
+ghost use Rattle.sets.specs.Good.{Good};
+ghost use Rattle.rounding.specs.Rounding.{parts, highBits, lowBits, makeHint, useHint, power2Round};
+
+pub struct Split {
+    pub high: u32,
+    pub low: i32,
+}
+
+// Decompose of a remainder. With u = x + γ2 mod q the high bits are (u - 1)/α, and no case is left for the top half step.
+pub fn split_of(p: Numbers, x: u32) -> Split
+    requires { ⌜ Good p ⌝ }
+    requires { ⌜ x < p .q ⌝ }
+    ensures { λ s. ⌜ s ≡ parts p x ⌝ }
+{
+    let g = p.gamma2;
+    let u = (x + g) % p.q;
+    if u == 0 {
+        return Split {
+            high: 0,
+            low: residues::difference(0, g),
+        };
+    }
+    let high = (u - 1) / (2 * g);
+    Split {
+        high: high,
+        low: residues::difference(u, g + high * (2 * g)),
+    }
+}
+
+// The high bits alone.
+pub fn high_of(p: Numbers, x: u32) -> u32
+    requires { ⌜ Good p ⌝ }
+    requires { ⌜ x < p .q ⌝ }
+    ensures { λ h. ⌜ h ≡ highBits p (pos x) ⌝ }
+{
+    let g = p.gamma2;
+    let u = (x + g) % p.q;
+    if u == 0 { 0 } else { (u - 1) / (2 * g) }
+}
+
+// The magnitude of the low bits.
+pub fn low_of(p: Numbers, x: u32) -> u32
+    requires { ⌜ Good p ⌝ }
+    requires { ⌜ x < p .q ⌝ }
+    ensures { λ m. ⌜ m ≡ natAbs (lowBits p (pos x)) ⌝ }
+{
+    let g = p.gamma2;
+    let u = (x + g) % p.q;
+    if u == 0 {
+        return g;
+    }
+    let middle = g + (u - 1) / (2 * g) * (2 * g);
+    if middle <= u { u - middle } else { middle - u }
+}
+
+// MakeHint of two remainders.
+pub fn hint_of(p: Numbers, z: u32, r: u32) -> u32
+    requires { ⌜ Good p ⌝ }
+    requires { ⌜ (z < p .q) × (r < p .q) ⌝ }
+    ensures { λ h. ⌜ h ≡ makeHint p (pos z) (pos r) ⌝ }
+{
+    let sum = (r + z) % p.q;
+    if high_of(p, r) == high_of(p, sum) {
+        0
+    } else {
+        1
+    }
+}
+
+// UseHint of a hint that is 0 or 1 and a remainder.
+pub fn used_of(p: Numbers, h: u32, r: u32) -> u32
+    requires { ⌜ Good p ⌝ }
+    requires { ⌜ (h ≤ 1) × (r < p .q) ⌝ }
+    ensures { λ v. ⌜ v ≡ useHint p h (pos r) ⌝ }
+{
+    let s = split_of(p, r);
+    let high = s.high;
+    if h == 0 {
+        return high;
+    }
+    let m = (p.q - 1) / (2 * p.gamma2);
+    if 0 < s.low {
+        (high + 1) % m
+    } else {
+        (high + (m - 1)) % m
+    }
+}
+
+// Power2Round of a remainder: r1 is (x + 2^(d-1) - 1)/2^d.
+pub fn power_of(p: Numbers, x: u32) -> Split
+    requires { ⌜ Good p ⌝ }
+    requires { ⌜ x < p .q ⌝ }
+    ensures { λ s. ⌜ s ≡ power2Round p (pos x) ⌝ }
+{
+    let half = 1u32 << (p.d - 1);
+    let high = (x + (half - 1)) / (2 * half);
+    Split {
+        high: high,
+        low: residues::difference(x, high * (2 * half)),
+    }
+}

@@ -1,0 +1,3 @@
+pub mod Shake
+pub mod Padding
+pub mod Steps
