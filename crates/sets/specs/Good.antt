@@ -34,6 +34,8 @@ pub record Good (p : Set) : Type 0 where
   pub aFits : p .q ≤ 2 ^ p .abits
   pub aBytes : p .abits ≤ 8 * p .abytes
   pub jFits : p .n ≤ 2 ^ p .jbits
+  -- the codes of s fill their groups of bytes
+  pub sWhole : p .sbits * (8 * p .sbytes / p .sbits) ≡ 8 * p .sbytes
   -- room in machine words
   pub nSome : 8 ≤ p .n
   pub nRoom : p .n ≤ 4096
@@ -45,6 +47,8 @@ pub record Good (p : Set) : Type 0 where
   pub dSome : 1 ≤ p .d
   pub t1Some : 1 ≤ p .t1bits
   pub sSome : 1 ≤ p .sbits
+  pub sGroupSome : 0 < p .sbytes
+  pub sGroupRoom : p .sbytes ≤ 256
   pub zSome : 1 ≤ p .zbits
   pub w1Some : 1 ≤ p .w1bits
   pub t1Room : p .t1bits ≤ 20

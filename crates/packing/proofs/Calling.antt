@@ -1,0 +1,128 @@
+-- The calls' checks in their order.
+use mathlib.Core.Path.{_≡_, _∙_}
+use mathlib.Core.List.{List}
+use Prim.Native.Nat.{ℕ, _≤_, _<_}
+use lib.Dec.{eqb, leb}
+use lib.IntN.{ℤ}
+use lib.ListN.{length}
+use Rattle.sets.specs.Set.{Set}
+use Rattle.sets.specs.declared.refusal.Buffer.the-variants.{Coefficients, Packed}
+use Rattle.sets.specs.declared.refusal.Refusal.{Refusal}
+use Rattle.sets.specs.declared.refusal.Refusal.the-variants.{Length, Hint}
+use Rattle.sets.specs.Result.{Result, done, refused, need, _>>_}
+use Rattle.sets.proofs.Outcomes.{equal, unequal, at-most, above}
+use Rattle.packing.specs.declared.layout.Layout.{Layout}
+use Rattle.packing.specs.Layouts.{hintLayout, holds, every, size, pack, unpack}
+use Rattle.packing.specs.Parts.{ones, anyHint, readHints}
+use Rattle.packing.specs.Calls.{packCall, unpackCall, packHintsCall, unpackHintsCall}
+use Rattle.packing.proofs.Answers.{after-done, after-refused}
+
+-- two lengths, then the rest of the call
+module _ {A : Type 0} (a b c d : ℕ) (r s : Refusal) (m : Result A) where
+  pub lengths : Result A
+  lengths = need (eqb a b) r >> (need (eqb c d) s >> m)
+
+  pub first-wrong : (a ≡ b → ⊥) → lengths ≡ refused r
+  unfolding lengths
+  first-wrong e = unequal a b r (need (eqb c d) s >> m) e
+
+  pub second-wrong : a ≡ b → (c ≡ d → ⊥) → lengths ≡ refused s
+  unfolding lengths
+  second-wrong e f = equal a b r (need (eqb c d) s >> m) e ∙ unequal c d s m f
+
+  pub both-right : a ≡ b → c ≡ d → lengths ≡ m
+  unfolding lengths
+  both-right e f = equal a b r (need (eqb c d) s >> m) e ∙ equal c d s m f
+
+module _ (L : Layout) (refusal : ℕ → Refusal) (n : ℕ) (values : List ℤ) (out : List ℕ) where
+  packing : Result (List ℕ)
+  packing = every (holds L) refusal 0 values >> done (pack L n values)
+
+  pub pack-wrong-values : (length values ≡ n → ⊥) → packCall L refusal n values out ≡ refused (Length Coefficients)
+  unfolding packCall lengths packing
+  pack-wrong-values e = first-wrong (length values) n (length out) (size L n) (Length Coefficients) (Length Packed) packing e
+
+  pub pack-wrong-out : length values ≡ n → (length out ≡ size L n → ⊥) → packCall L refusal n values out ≡ refused (Length Packed)
+  unfolding packCall lengths packing
+  pack-wrong-out e f = second-wrong (length values) n (length out) (size L n) (Length Coefficients) (Length Packed) packing e f
+
+  module _ (e : length values ≡ n) (f : length out ≡ size L n) where
+    pub pack-refused : (r : Refusal) → every (holds L) refusal 0 values ≡ refused r → packCall L refusal n values out ≡ refused r
+    unfolding packCall lengths packing
+    pack-refused r h =
+        both-right (length values) n (length out) (size L n) (Length Coefficients) (Length Packed) packing e f ∙
+        after-refused (every (holds L) refusal 0 values) r (done (pack L n values)) h
+
+    pub pack-done : every (holds L) refusal 0 values ≡ done tt → packCall L refusal n values out ≡ done (pack L n values)
+    unfolding packCall lengths packing
+    pack-done h =
+        both-right (length values) n (length out) (size L n) (Length Coefficients) (Length Packed) packing e f ∙
+        after-done (every (holds L) refusal 0 values) tt (done (pack L n values)) h
+
+module _ (L : Layout) (refusal : ℕ → Refusal) (n : ℕ) (packed : List ℕ) (out : List ℤ) where
+  pub unpack-wrong-packed : (length packed ≡ size L n → ⊥) → unpackCall L refusal n packed out ≡ refused (Length Packed)
+  unfolding unpackCall lengths
+  unpack-wrong-packed e = first-wrong (length packed) (size L n) (length out) n (Length Packed) (Length Coefficients) (unpack L refusal n packed) e
+
+  pub unpack-wrong-out : length packed ≡ size L n → (length out ≡ n → ⊥) → unpackCall L refusal n packed out ≡ refused (Length Coefficients)
+  unfolding unpackCall lengths
+  unpack-wrong-out e f = second-wrong (length packed) (size L n) (length out) n (Length Packed) (Length Coefficients) (unpack L refusal n packed) e f
+
+  pub unpack-goes : length packed ≡ size L n → length out ≡ n → unpackCall L refusal n packed out ≡ unpack L refusal n packed
+  unfolding unpackCall lengths
+  unpack-goes e f = both-right (length packed) (size L n) (length out) n (Length Packed) (Length Coefficients) (unpack L refusal n packed) e f
+
+-- the hints
+module _ (p : Set) (values : List ℤ) (out : List ℕ) where
+  counted : Result (List ℕ)
+  counted = need (leb (ones values) (p .omega)) Hint >> done (pack hintLayout (p .n) values)
+
+  packing-hints : Result (List ℕ)
+  unfolding counted
+  packing-hints = every (holds hintLayout) anyHint 0 values >> counted
+
+  pub pack-hints-wrong-values : (length values ≡ p .n → ⊥) → packHintsCall p values out ≡ refused (Length Coefficients)
+  unfolding packHintsCall lengths packing-hints counted
+  pack-hints-wrong-values e = first-wrong (length values) (p .n) (length out) (size hintLayout (p .n)) (Length Coefficients) (Length Packed) packing-hints e
+
+  pub pack-hints-wrong-out : length values ≡ p .n → (length out ≡ size hintLayout (p .n) → ⊥) → packHintsCall p values out ≡ refused (Length Packed)
+  unfolding packHintsCall lengths packing-hints counted
+  pack-hints-wrong-out e f = second-wrong (length values) (p .n) (length out) (size hintLayout (p .n)) (Length Coefficients) (Length Packed) packing-hints e f
+
+  module _ (e : length values ≡ p .n) (f : length out ≡ size hintLayout (p .n)) where
+    right : packHintsCall p values out ≡ packing-hints
+    unfolding packHintsCall lengths packing-hints counted
+    right = both-right (length values) (p .n) (length out) (size hintLayout (p .n)) (Length Coefficients) (Length Packed) packing-hints e f
+
+    pub pack-hints-refused : every (holds hintLayout) anyHint 0 values ≡ refused Hint → packHintsCall p values out ≡ refused Hint
+    unfolding packing-hints
+    pack-hints-refused h = right ∙ after-refused (every (holds hintLayout) anyHint 0 values) Hint counted h
+
+    module _ (h : every (holds hintLayout) anyHint 0 values ≡ done tt) where
+      pub pack-hints-many : p .omega < ones values → packHintsCall p values out ≡ refused Hint
+      unfolding packing-hints counted
+      pack-hints-many l =
+          right ∙ after-done (every (holds hintLayout) anyHint 0 values) tt counted h ∙
+          above (ones values) (p .omega) Hint (done (pack hintLayout (p .n) values)) l
+
+      pub pack-hints-done : ones values ≤ p .omega → packHintsCall p values out ≡ done (pack hintLayout (p .n) values)
+      unfolding packing-hints counted
+      pack-hints-done l =
+          right ∙ after-done (every (holds hintLayout) anyHint 0 values) tt counted h ∙
+          at-most (ones values) (p .omega) Hint (done (pack hintLayout (p .n) values)) l
+
+module _ (p : Set) (packed : List ℕ) (out : List ℤ) where
+  pub unpack-hints-wrong-packed : (length packed ≡ size hintLayout (p .n) → ⊥) → unpackHintsCall p packed out ≡ refused (Length Packed)
+  unfolding unpackHintsCall lengths
+  unpack-hints-wrong-packed e =
+      first-wrong (length packed) (size hintLayout (p .n)) (length out) (p .n) (Length Packed) (Length Coefficients) (readHints p packed) e
+
+  pub unpack-hints-wrong-out : length packed ≡ size hintLayout (p .n) → (length out ≡ p .n → ⊥) → unpackHintsCall p packed out ≡ refused (Length Coefficients)
+  unfolding unpackHintsCall lengths
+  unpack-hints-wrong-out e f =
+      second-wrong (length packed) (size hintLayout (p .n)) (length out) (p .n) (Length Packed) (Length Coefficients) (readHints p packed) e f
+
+  pub unpack-hints-goes : length packed ≡ size hintLayout (p .n) → length out ≡ p .n → unpackHintsCall p packed out ≡ readHints p packed
+  unfolding unpackHintsCall lengths
+  unpack-hints-goes e f =
+      both-right (length packed) (size hintLayout (p .n)) (length out) (p .n) (Length Packed) (Length Coefficients) (readHints p packed) e f

@@ -1,0 +1,123 @@
+-- Each public contract of this crate permits one outcome.
+use mathlib.Core.Path.{refl, sym, _∙_}
+use denote.Ref.{now}
+use Rattle.outcome.proofs.One.{One, determined}
+use Rattle.sets.proofs.Outcomes.{determined-report}
+use Rattle.packing.proofs.layout.Layout.t1.Reads as t1-layout
+use Rattle.packing.proofs.layout.Layout.t1.Kinds as t1-layout-kinds
+use Rattle.packing.proofs.layout.Layout.t0.Reads as t0-layout
+use Rattle.packing.proofs.layout.Layout.t0.Kinds as t0-layout-kinds
+use Rattle.packing.proofs.layout.Layout.s.Reads as s-layout
+use Rattle.packing.proofs.layout.Layout.s.Kinds as s-layout-kinds
+use Rattle.packing.proofs.layout.Layout.z.Reads as z-layout
+use Rattle.packing.proofs.layout.Layout.z.Kinds as z-layout-kinds
+use Rattle.packing.proofs.layout.Layout.y.Reads as y-layout
+use Rattle.packing.proofs.layout.Layout.y.Kinds as y-layout-kinds
+use Rattle.packing.proofs.layout.Layout.w1.Reads as w1-layout
+use Rattle.packing.proofs.layout.Layout.w1.Kinds as w1-layout-kinds
+use Rattle.packing.proofs.layout.Layout.hint.Reads as hint-layout
+use Rattle.packing.proofs.layout.Layout.hint.Kinds as hint-layout-kinds
+use Rattle.packing.proofs.layout.Layout.size.Reads as size-layout
+use Rattle.packing.proofs.layout.Layout.size.Kinds as size-layout-kinds
+use Rattle.packing.proofs.unpack.unpack.Reads as unpack
+use Rattle.packing.proofs.unpack.unpack.Kinds as unpack-kinds
+use Rattle.packing.proofs.unpack.count_ones.Reads as count-ones
+use Rattle.packing.proofs.unpack.count_ones.Kinds as count-ones-kinds
+use Rattle.packing.proofs.pack.codes_of.Reads as codes-of
+use Rattle.packing.proofs.pack.codes_of.Kinds as codes-of-kinds
+use Rattle.packing.proofs.level1.pack_t1.Reads as pack-t1
+use Rattle.packing.proofs.level1.pack_t1.Kinds as pack-t1-kinds
+use Rattle.packing.proofs.level1.unpack_t1.Reads as unpack-t1
+use Rattle.packing.proofs.level1.unpack_t1.Kinds as unpack-t1-kinds
+use Rattle.packing.proofs.level1.pack_t0.Reads as pack-t0
+use Rattle.packing.proofs.level1.pack_t0.Kinds as pack-t0-kinds
+use Rattle.packing.proofs.level1.unpack_t0.Reads as unpack-t0
+use Rattle.packing.proofs.level1.unpack_t0.Kinds as unpack-t0-kinds
+use Rattle.packing.proofs.level1.pack_s.Reads as pack-s
+use Rattle.packing.proofs.level1.pack_s.Kinds as pack-s-kinds
+use Rattle.packing.proofs.level1.unpack_s.Reads as unpack-s
+use Rattle.packing.proofs.level1.unpack_s.Kinds as unpack-s-kinds
+use Rattle.packing.proofs.level1.pack_z.Reads as pack-z
+use Rattle.packing.proofs.level1.pack_z.Kinds as pack-z-kinds
+use Rattle.packing.proofs.level1.unpack_z.Reads as unpack-z
+use Rattle.packing.proofs.level1.unpack_z.Kinds as unpack-z-kinds
+use Rattle.packing.proofs.level1.pack_w1.Reads as pack-w1
+use Rattle.packing.proofs.level1.pack_w1.Kinds as pack-w1-kinds
+use Rattle.packing.proofs.level1.unpack_w1.Reads as unpack-w1
+use Rattle.packing.proofs.level1.unpack_w1.Kinds as unpack-w1-kinds
+use Rattle.packing.proofs.level1.pack_hints.Reads as pack-hints
+use Rattle.packing.proofs.level1.pack_hints.Kinds as pack-hints-kinds
+use Rattle.packing.proofs.level1.unpack_hints.Reads as unpack-hints
+use Rattle.packing.proofs.level1.unpack_hints.Kinds as unpack-hints-kinds
+
+-- ---- the layouts
+pub t1-layout-one : One 0 t1-layout-kinds.ps t1-layout-kinds.r t1-layout.Post (λ κs s. tt {0})
+t1-layout-one κs a x y s t p q = (p ∙ sym q, refl)
+
+pub t0-layout-one : One 0 t0-layout-kinds.ps t0-layout-kinds.r t0-layout.Post (λ κs s. tt {0})
+t0-layout-one κs a x y s t p q = (p ∙ sym q, refl)
+
+pub s-layout-one : One 0 s-layout-kinds.ps s-layout-kinds.r s-layout.Post (λ κs s. tt {0})
+s-layout-one κs a x y s t p q = (p ∙ sym q, refl)
+
+pub z-layout-one : One 0 z-layout-kinds.ps z-layout-kinds.r z-layout.Post (λ κs s. tt {0})
+z-layout-one κs a x y s t p q = (p ∙ sym q, refl)
+
+pub y-layout-one : One 0 y-layout-kinds.ps y-layout-kinds.r y-layout.Post (λ κs s. tt {0})
+y-layout-one κs a x y s t p q = (p ∙ sym q, refl)
+
+pub w1-layout-one : One 0 w1-layout-kinds.ps w1-layout-kinds.r w1-layout.Post (λ κs s. tt {0})
+w1-layout-one κs a x y s t p q = (p ∙ sym q, refl)
+
+pub hint-layout-one : One 0 hint-layout-kinds.ps hint-layout-kinds.r hint-layout.Post (λ κs s. tt {0})
+hint-layout-one κs a x y s t p q = (p ∙ sym q, refl)
+
+pub size-layout-one : One 0 size-layout-kinds.ps size-layout-kinds.r size-layout.Post (λ κs s. tt {0})
+size-layout-one κs a x y s t p q = (p ∙ sym q, refl)
+
+-- ---- the inner functions
+pub unpack-one : One 2 unpack-kinds.ps unpack-kinds.r unpack.Post (λ κs s. now (s .1 .1 .1 .0))
+unpack-one κs a x y s t p q = determined _ x y (now (s .1 .1 .1 .0)) (now (t .1 .1 .1 .0)) p q
+
+pub codes-of-one : One 2 codes-of-kinds.ps codes-of-kinds.r codes-of.Post (λ κs s. now (s .1 .1 .0))
+codes-of-one κs a x y s t p q = determined _ x y (now (s .1 .1 .0)) (now (t .1 .1 .0)) p q
+
+pub count-ones-one : One 1 count-ones-kinds.ps count-ones-kinds.r count-ones.Post (λ κs s. tt {0})
+count-ones-one κs a x y s t p q = (p ∙ sym q, refl)
+
+-- ---- the calls of trinomial level 1
+pub pack-t1-one : One 2 pack-t1-kinds.ps pack-t1-kinds.r pack-t1.Post (λ κs s. now (s .1 .0))
+pack-t1-one κs a x y s t p q = determined-report _ x y (now (s .1 .0)) (now (t .1 .0)) p q
+
+pub unpack-t1-one : One 2 unpack-t1-kinds.ps unpack-t1-kinds.r unpack-t1.Post (λ κs s. now (s .1 .0))
+unpack-t1-one κs a x y s t p q = determined-report _ x y (now (s .1 .0)) (now (t .1 .0)) p q
+
+pub pack-t0-one : One 2 pack-t0-kinds.ps pack-t0-kinds.r pack-t0.Post (λ κs s. now (s .1 .0))
+pack-t0-one κs a x y s t p q = determined-report _ x y (now (s .1 .0)) (now (t .1 .0)) p q
+
+pub unpack-t0-one : One 2 unpack-t0-kinds.ps unpack-t0-kinds.r unpack-t0.Post (λ κs s. now (s .1 .0))
+unpack-t0-one κs a x y s t p q = determined-report _ x y (now (s .1 .0)) (now (t .1 .0)) p q
+
+pub pack-s-one : One 2 pack-s-kinds.ps pack-s-kinds.r pack-s.Post (λ κs s. now (s .1 .0))
+pack-s-one κs a x y s t p q = determined-report _ x y (now (s .1 .0)) (now (t .1 .0)) p q
+
+pub unpack-s-one : One 2 unpack-s-kinds.ps unpack-s-kinds.r unpack-s.Post (λ κs s. now (s .1 .0))
+unpack-s-one κs a x y s t p q = determined-report _ x y (now (s .1 .0)) (now (t .1 .0)) p q
+
+pub pack-z-one : One 2 pack-z-kinds.ps pack-z-kinds.r pack-z.Post (λ κs s. now (s .1 .0))
+pack-z-one κs a x y s t p q = determined-report _ x y (now (s .1 .0)) (now (t .1 .0)) p q
+
+pub unpack-z-one : One 2 unpack-z-kinds.ps unpack-z-kinds.r unpack-z.Post (λ κs s. now (s .1 .0))
+unpack-z-one κs a x y s t p q = determined-report _ x y (now (s .1 .0)) (now (t .1 .0)) p q
+
+pub pack-w1-one : One 2 pack-w1-kinds.ps pack-w1-kinds.r pack-w1.Post (λ κs s. now (s .1 .0))
+pack-w1-one κs a x y s t p q = determined-report _ x y (now (s .1 .0)) (now (t .1 .0)) p q
+
+pub unpack-w1-one : One 2 unpack-w1-kinds.ps unpack-w1-kinds.r unpack-w1.Post (λ κs s. now (s .1 .0))
+unpack-w1-one κs a x y s t p q = determined-report _ x y (now (s .1 .0)) (now (t .1 .0)) p q
+
+pub pack-hints-one : One 2 pack-hints-kinds.ps pack-hints-kinds.r pack-hints.Post (λ κs s. now (s .1 .0))
+pack-hints-one κs a x y s t p q = determined-report _ x y (now (s .1 .0)) (now (t .1 .0)) p q
+
+pub unpack-hints-one : One 2 unpack-hints-kinds.ps unpack-hints-kinds.r unpack-hints.Post (λ κs s. now (s .1 .0))
+unpack-hints-one κs a x y s t p q = determined-report _ x y (now (s .1 .0)) (now (t .1 .0)) p q

@@ -1,0 +1,18 @@
+-- Packing and unpacking are inverse on allowed values; the laws that the code's proofs cite; each contract permits one outcome.
+pub mod Answers
+pub mod Kept
+pub mod Elements
+pub mod Joins
+pub mod Room
+pub mod Wholes
+pub mod WholesFirst
+pub mod Calling
+pub mod Inverse
+pub mod Making
+pub mod Scans
+pub mod Reading
+pub mod Wide
+pub mod Packs
+pub mod Hints
+pub mod First
+pub mod Determined

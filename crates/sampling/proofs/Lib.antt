@@ -1,0 +1,21 @@
+-- What the samplers draw, by the definitions.
+pub mod Bounds
+pub mod Groups
+pub mod Drawing
+pub mod Sparse
+pub mod Masking
+pub mod Set1
+pub mod Edges
+-- The code over remainders: what it leaves behind, how that is tied to the definitions, and its loops.
+pub mod Tied
+pub mod Filling
+pub mod Placing
+pub mod Samplings
+pub mod Reading
+pub mod Remainders
+pub mod Going
+pub mod Taking
+pub mod Stepping
+-- The calls for trinomial level 1, and that each contract permits one outcome.
+pub mod Calling
+pub mod Determined

@@ -1,0 +1,59 @@
+use mathlib.Core.Path.{refl}
+use native.Mathlib.Omega.{arith}
+use Rattle.sets.proofs.Five.{good-tri1}
+use Rattle.sets.proofs.Outcomes.{refusing, doing}
+use Rattle.residues.specs.Remainder.{signed}
+use Rattle.sampling.specs.Samplers.{challenge}
+use Rattle.sampling.proofs.Calling.{told-c, stored-c, wrong-length, call-dry, held-below, held-long, call-done}
+use borrow.Author.Needs.{needs}
+use Rattle.sampling.proofs.level1.sample_challenge.Statement.{statement}
+use Rattle.sampling.proofs.level1.sample_challenge.Tie as tie
+
+returns : tie.Need-returns
+returns c = refusing _ _ _ (wrong-length challenge _ _ (c .if1 .taken))
+
+numbers-requires : tie.Need-numbers-requires
+numbers-requires c κs = search needs
+
+slice-aggregate-draw-challenge : tie.Need-slice-aggregate-draw-challenge
+slice-aggregate-draw-challenge c = search needs
+
+draw-challenge-requires : tie.Need-draw-challenge-requires
+draw-challenge-requires c κs = rw (c .before .numbers .ensures) (good-tri1, refl)
+
+enum-told : tie.Need-enum-told
+enum-told c = search needs
+
+enum-told-2 : tie.Need-enum-told-2
+enum-told-2 c = search needs
+
+returns-2 : tie.Need-returns-2
+returns-2 c = refusing _ _ _ (call-dry challenge (c .before .before .before .before .before .before .before .before .args .stream .now) (c .before .before .before .before .before .before .before .before .args .out .now) (c .before .before .before .before .before .before .if1 .left) _ _ (told-c _ (c .before .before .before .before .before .numbers .ensures) (c .before .before .before .before .before .before .before .before .args .stream .now) _ _ (c .before .before .before .draw-challenge .ensures)) (c .enum-told2 .given .1))
+
+slice-aggregate-store-centred : tie.Need-slice-aggregate-store-centred
+slice-aggregate-store-centred c = search needs
+
+store-centred-requires : tie.Need-store-centred-requires
+store-centred-requires c κs = (omega arith, held-below challenge (c .before .before .before .before .before .before .before .before .before .before .args .stream .now) (c .before .before .before .before .before .before .before .before .before .before .args .out .now) (c .before .before .before .before .before .before .before .before .if1 .left) _ _ (told-c _ (c .before .before .before .before .before .before .before .numbers .ensures) (c .before .before .before .before .before .before .before .before .before .before .args .stream .now) _ _ (c .before .before .before .before .before .draw-challenge .ensures)) (c .before .before .enum-told .given .1), held-long challenge (c .before .before .before .before .before .before .before .before .before .before .args .stream .now) (c .before .before .before .before .before .before .before .before .before .before .args .out .now) (c .before .before .before .before .before .before .before .before .if1 .left) _ _ (told-c _ (c .before .before .before .before .before .before .before .numbers .ensures) (c .before .before .before .before .before .before .before .before .before .before .args .stream .now) _ _ (c .before .before .before .before .before .draw-challenge .ensures)) (c .before .before .enum-told .given .1) (signed 8401537) (stored-c (c .before .before .before .before .before .before .before .before .before .before .args .stream .now)))
+
+same-length : tie.Need-same-length
+same-length c = search needs
+
+returns-3 : tie.Need-returns-3
+returns-3 c = doing _ _ _ _ (call-done challenge (c .before .before .before .before .before .before .before .before .before .before .before .before .args .stream .now) (c .before .before .before .before .before .before .before .before .before .before .before .before .args .out .now) (c .before .before .before .before .before .before .before .before .before .before .if1 .left) _ _ (told-c _ (c .before .before .before .before .before .before .before .before .before .numbers .ensures) (c .before .before .before .before .before .before .before .before .before .before .before .before .args .stream .now) _ _ (c .before .before .before .before .before .before .before .draw-challenge .ensures)) (c .before .before .before .before .enum-told .given .1) (signed 8401537) (stored-c (c .before .before .before .before .before .before .before .before .before .before .before .before .args .stream .now))) (c .before .store-centred .ensures)
+
+pub sample-challenge-spec : {M : Type 1} → statement M
+sample-challenge-spec =
+    tie.close
+    (tie.spec
+    returns
+    numbers-requires
+    slice-aggregate-draw-challenge
+    draw-challenge-requires
+    enum-told
+    enum-told-2
+    returns-2
+    slice-aggregate-store-centred
+    store-centred-requires
+    same-length
+    returns-3)

@@ -1,0 +1,73 @@
+// The challenge (002, Algorithm 1, one polynomial): "Step k has i = 1127 + k. Each draw takes the next two bytes and keeps the low 11 bits as j;
+// it is used if j ≤ i. Then place i takes the value at j, and j takes the sign."
+use crate::Sampled;
+use sets::numbers::Numbers;
+ghost use mathlib.Core.Path.{_≡_};
+ghost use Prim.Native.Nat.{_+_, _%_, _<_, _≤_};
+ghost use lib.ListN.{length, take, drop, getD, set};
+ghost use Rattle.outcome.specs.Outcome.{Is};
+ghost use Rattle.sets.specs.Good.{Good};
+ghost use Rattle.digits.specs.Digits.{value};
+ghost use Rattle.sampling.specs.Engine.{signOf, drawnC};
+
+// "Bit k of the first 8 bytes, read as one little-endian number, is the sign of step k"
+fn sign_bits(stream: &[u8]) -> u64
+    ensures { λ r. ⌜ r ≡ value 256 (take 8 (now (stream .entry))) ⌝ }
+{
+    (digits::window(stream, 0) as u64) + 4294967296 * (digits::window(stream, 4) as u64)
+}
+
+// The remainder of 1, or of -1 where the bit is 1.
+fn sign(q: u32, bit: u64) -> u32
+    requires { ⌜ 1 < q ⌝ }
+    ensures { λ r. ⌜ r ≡ signOf q bit ⌝ }
+{
+    if bit == 1 { q - 1 } else { 1 }
+}
+
+// The draw at a place of the stream, below a power of two.
+fn draw(power: usize, stream: &[u8], at: usize) -> usize
+    requires { ⌜ (0 < power) × (at + 2 ≤ length (now stream)) ⌝ }
+    ensures { λ r. ⌜ r ≡ value 256 (take 2 (drop at (now (stream .entry)))) % power ⌝ }
+{
+    let next = at + 1;
+    (stream[at] as usize + 256 * (stream[next] as usize)) % power
+}
+
+// Place i takes the value at j, and j takes v.
+fn put(out: &mut [u32], i: usize, j: usize, v: u32)
+    requires { ⌜ (i < length (now out)) × (j ≤ i) ⌝ }
+    ensures { λ _. ⌜ now (out .exit) ≡ set (set (now (out .entry)) i (getD (now (out .entry)) j 0)) j v ⌝ }
+{
+    out[i] = out[j];
+    out[j] = v;
+}
+
+// A draw past its place is drawn again, never reduced.
+pub fn draw_challenge(p: Numbers, stream: &[u8], out: &mut [u32]) -> Sampled
+    requires { ⌜ Good p ⌝ }
+    requires { ⌜ length (now out) ≡ p .n ⌝ }
+    ensures { λ r. ⌜ Is (drawnC p (now (stream .entry))) r (now (out .exit)) ⌝ }
+{
+    buffers::clear_numbers(out);
+    let wide = p.jbits as u32;
+    let power = 1usize << wide;
+    let mut place = p.n - p.tau;
+    let mut signs = sign_bits(stream);
+    let mut at: usize = 8;
+    while place < p.n {
+        let end = at + 2;
+        let past = place + 1;
+        if stream.len() < end {
+            return Sampled::Dry;
+        }
+        let j = draw(power, stream, at);
+        at = end;
+        if j < past {
+            put(out, place, j, sign(p.q, signs % 2));
+            place = past;
+            signs = signs / 2;
+        }
+    }
+    Sampled::All
+}

@@ -1,0 +1,51 @@
+// a: "cut into 4,352 groups of 3 bytes, little-endian. A group below q is the next coefficient; others are skipped."
+use crate::Sampled;
+use sets::numbers::Numbers;
+ghost use mathlib.Core.Path.{_≡_};
+ghost use Prim.Native.Nat.{_%_, _^_, _<_};
+ghost use lib.Dec.{ltb};
+ghost use lib.IntN.{pos};
+ghost use lib.ListN.{length, take};
+ghost use Rattle.outcome.specs.Outcome.{Is};
+ghost use Rattle.sets.specs.Good.{Good};
+ghost use Rattle.digits.specs.Digits.{value};
+ghost use Rattle.sampling.specs.Engine.{kept, drawnA};
+
+// The group that stands first, of which the low bits are kept.
+fn group(p: Numbers, stream: &[u8]) -> u32
+    requires { ⌜ Good p ⌝ }
+    ensures { λ r. ⌜ r ≡ value 256 (take (p .abytes) (now (stream .entry))) % 2 ^ p .abits ⌝ }
+{
+    let wide = p.abits as u32;
+    ((digits::window(stream, 0) as u64) % (1u64 << wide)) as u32
+}
+
+// A group below q goes to the next place.
+fn keep(q: u32, v: u32, out: &mut [u32], found: usize) -> usize
+    requires { ⌜ found < length (now out) ⌝ }
+    ensures { λ r. ⌜ Is (kept q (ltb v q) (pos v) found (now (out .entry))) r (now (out .exit)) ⌝ }
+{
+    if v < q {
+        out[found] = v;
+        return found + 1;
+    }
+    found
+}
+
+// One group after the other, while a whole one is left.
+pub fn draw_a(p: Numbers, stream: &[u8], out: &mut [u32]) -> Sampled
+    requires { ⌜ Good p ⌝ }
+    requires { ⌜ length (now out) ≡ p .n ⌝ }
+    ensures { λ r. ⌜ Is (drawnA p (now (stream .entry)) (now (out .entry))) r (now (out .exit)) ⌝ }
+{
+    let mut found: usize = 0;
+    let mut at: usize = 0;
+    while found < p.n {
+        if stream.len() - at < p.abytes {
+            return Sampled::Dry;
+        }
+        found = keep(p.q, group(p, &stream[at..]), out, found);
+        at += p.abytes;
+    }
+    Sampled::All
+}

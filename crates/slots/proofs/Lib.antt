@@ -1,0 +1,4 @@
+-- The laws of elements in one memory.
+pub mod Memory
+pub mod Writing
+pub mod Scaling

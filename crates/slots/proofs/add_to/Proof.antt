@@ -1,0 +1,113 @@
+use Rattle.ring.proofs.Lists.{length-tab, at-tab}
+use mathlib.Core.Path.{sym}
+use Prim.Native.Nat.{_-_}
+use native.Mathlib.Omega.{arith}
+use Rattle.slots.specs.Slots.{slot}
+use Rattle.slots.specs.Elements.{added}
+use Rattle.slots.proofs.Writing.{Writing, writing-none, writing-more, writing-all, other-at, own-at}
+use borrow.Author.Needs.{needs}
+use Rattle.slots.proofs.add_to.Statement.{statement}
+use Rattle.slots.proofs.add_to.Tie as tie
+
+abbrev Inv-loop : tie.InvT-loop
+Inv-loop p work₀ i k from to t₀ work t = Writing (p .n) k (added p (slot (p .n) k work₀) (slot (p .n) i work₀)) work₀ t work
+
+abbrev μ-loop : tie.MeasureT-loop
+μ-loop p work₀ i k from to t₀ work t = p .n - t
+
+mul-from : tie.Need-mul-from Inv-loop μ-loop
+mul-from c = search needs
+
+mul-to : tie.Need-mul-to Inv-loop μ-loop
+mul-to c = search needs
+
+loop-holds : tie.Need-loop-holds Inv-loop μ-loop
+unfolding added
+loop-holds c =
+    let a = c .before .before .pre .1 .1 in
+    writing-none _ _ _ _ (a .4) (length-tab _ _)
+
+add-sum : tie.Need-add-sum Inv-loop μ-loop
+add-sum c = search needs
+
+mul-sum : tie.Need-mul-sum Inv-loop μ-loop
+mul-sum c = search needs
+
+slice-read-sum : tie.Need-slice-read-sum Inv-loop μ-loop
+slice-read-sum c = search needs
+
+add-sum-2 : tie.Need-add-sum-2 Inv-loop μ-loop
+add-sum-2 c = search needs
+
+mul-sum-2 : tie.Need-mul-sum-2 Inv-loop μ-loop
+mul-sum-2 c = search needs
+
+slice-read-sum-2 : tie.Need-slice-read-sum-2 Inv-loop μ-loop
+slice-read-sum-2 c = search needs
+
+add-sum-3 : tie.Need-add-sum-3 Inv-loop μ-loop
+add-sum-3 c =
+    let l = c .before .before .before .before .loop in
+    let a = c .before .before .before .before .before .before .before .pre .1 .1 in
+    let r = c .before .before .before .before .before .before .before .pre .1 .0 in
+    omega (arith, own-at _ _ _ _ (l .t) (l .work) (l .inv) (c .before .before .if1 .taken), other-at _ _ _ _ (l .t) (l .work) (l .inv) _ (a .2) (l .t) (c .before .before .if1 .taken), r .0 .each (l .t), r .1 .each (l .t), c .before .before .before .before .before .before .before .pre .0 .qRoom)
+
+rem-work : tie.Need-rem-work Inv-loop μ-loop
+rem-work c = search needs
+
+add-work : tie.Need-add-work Inv-loop μ-loop
+add-work c = search needs
+
+mul-work : tie.Need-mul-work Inv-loop μ-loop
+mul-work c = search needs
+
+slice-write-work : tie.Need-slice-write-work Inv-loop μ-loop
+slice-write-work c = search needs
+
+add-t : tie.Need-add-t Inv-loop μ-loop
+add-t c = search needs
+
+loop-less : tie.Need-loop-less Inv-loop μ-loop
+loop-less c = search needs
+
+loop-again : tie.Need-loop-again Inv-loop μ-loop
+unfolding added
+loop-again c =
+    let l = c .before .before .before .before .before .loop in
+    let a = c .before .before .before .before .before .before .before .before .pre .1 .1 in
+    let r = c .before .before .before .before .before .before .before .before .pre .1 .0 in
+    writing-more _ _ _ _ (l .t) (l .work) (l .inv) _ (c .before .before .before .if1 .taken) (rw (own-at _ _ _ _ (l .t) (l .work) (l .inv) (c .before .before .before .if1 .taken), other-at _ _ _ _ (l .t) (l .work) (l .inv) _ (a .2) (l .t) (c .before .before .before .if1 .taken)) (sym (at-tab 0 _ _ (l .t) (c .before .before .before .if1 .taken))))
+
+same-length : tie.Need-same-length Inv-loop μ-loop
+same-length c = search needs
+
+returns : tie.Need-returns Inv-loop μ-loop
+returns c =
+    let l = c .before .before .loop in
+    writing-all _ _ _ _ (l .t) (l .work) (l .inv) (c .if1 .left)
+
+pub add-to-spec : {M : Type 1} → statement M
+add-to-spec =
+    tie.close
+    (tie.spec
+    Inv-loop
+    μ-loop
+    mul-from
+    mul-to
+    loop-holds
+    add-sum
+    mul-sum
+    slice-read-sum
+    add-sum-2
+    mul-sum-2
+    slice-read-sum-2
+    add-sum-3
+    rem-work
+    add-work
+    mul-work
+    slice-write-work
+    add-t
+    loop-less
+    loop-again
+    same-length
+    returns)

@@ -1,0 +1,3 @@
+-- Elements in one lent memory.
+pub mod Slots
+pub mod Elements
