@@ -1,0 +1,98 @@
+-- What the samplers draw from SHAKE256's stream is the definition's element.
+use mathlib.Core.Path.{_≡_, refl, sym, ap, subst, _∙_}
+use mathlib.Core.List.{List, [], _∷_, _++_, append-nil, map}
+use Prim.Native.Nat.{ℕ, suc, _+_, _-_, _*_, _/_, _%_, _^_, _≤_, _<_}
+use lib.IntN.{ℤ}
+use native.Mathlib.Omega.{arith}
+use mathlib.Core.Bool.{Bool, true}
+use lib.ListN.{length, getD}
+use Rattle.outcome.specs.Outcome.{Is}
+use Rattle.sets.specs.Set.{Set}
+use Rattle.sets.specs.Good.{Good}
+use Rattle.sets.specs.Result.{Result, done, refused}
+use Rattle.shake.specs.Shake.{shake256}
+use Rattle.shake.proofs.Output.{length-shake256}
+use Rattle.residues.specs.Remainder.{residue}
+use Rattle.digits.specs.Digits.{digits, codes, twoBytes}
+use Rattle.packing.specs.declared.unpack.Unpacked.{Unpacked}
+use Rattle.packing.specs.declared.unpack.Unpacked.the-variants.{All as AllRead, BadAt}
+use Rattle.packing.specs.Layouts.{yLayout, allowed, means, size}
+use Rattle.packing.specs.declared.layout.Layout.{Layout}
+use Rattle.packing.specs.Engine.{Readable, scan, writtenTo, remainders, unpackedTo}
+use Rattle.packing.proofs.Kept.{allowed-of}
+use Rattle.packing.proofs.Elements.{codes-below}
+use Rattle.packing.proofs.Reading.{residues-means}
+use Rattle.packing.proofs.Room.{y-readable}
+use Rattle.sampling.specs.declared.Sampled.{Sampled}
+use Rattle.sampling.specs.declared.Sampled.the-variants.{All, Dry}
+use Rattle.sampling.specs.Samplers.{Drawn, drawn, sampleA, sampleS, challenge}
+use Rattle.sampling.specs.Streams.{expandA, expandS, expandY, expandC}
+use Rattle.sampling.specs.Engine.{drawnA, drawnS, drawnC}
+use Rattle.sampling.proofs.Tied.{Tied, answered-all, answered-dry}
+use Rattle.sampling.proofs.Samplings.{tied-a, tied-s, tied-c}
+use Rattle.elements.specs.Expanded.{Got}
+
+got-of : (q : ℕ) (d : Drawn) (o : Sampled × List ℕ) → Tied q d o → (r : Sampled) (out : List ℕ) → Is o r out → Got q (drawn d) r out
+got-of q d o T All out i = let a = answered-all T out i in (a .0, ap drawn (a .1), a .2)
+got-of q d o T Dry out i = ap drawn (answered-dry T out i)
+
+-- the stream is the hash of the parts joined
+module _ (p : Set) (bs old : List ℕ) (r : Sampled) (out : List ℕ) where
+  pub got-a : (ζ : List ℕ) → bs ≡ shake256 (ζ ++ ((0 ∷ 0 ∷ []) ++ [])) (p .astream) → length old ≡ p .n → Is (drawnA p bs old) r out
+      → Got (p .q) (expandA p shake256 ζ) r out
+  unfolding expandA digits
+  got-a ζ e l i = subst (λ (x : List ℕ). Got (p .q) (drawn (sampleA p x)) r out) e (got-of (p .q) (sampleA p bs) (drawnA p bs old) (tied-a p bs old l) r out i)
+
+  pub got-s : (ξ : List ℕ) → bs ≡ shake256 (ξ ++ ([] ++ [])) (p .sstream) → length old ≡ p .n → Is (drawnS p bs old) r out
+      → Got (p .q) (expandS p shake256 ξ) r out
+  unfolding expandS
+  got-s ξ e l i =
+      subst (λ (x : List ℕ). Got (p .q) (drawn (sampleS p x)) r out) (e ∙ ap (λ (x : List ℕ). shake256 x (p .sstream)) (append-nil ξ))
+      (got-of (p .q) (sampleS p bs) (drawnS p bs old) (tied-s p bs old l) r out i)
+
+  pub got-c : (c~ : List ℕ) → bs ≡ shake256 (c~ ++ ([] ++ [])) (p .cstream) → Is (drawnC p bs) r out
+      → Got (p .q) (drawn (expandC p shake256 c~)) r out
+  unfolding expandC
+  got-c c~ e i =
+      subst (λ (x : List ℕ). Got (p .q) (drawn (challenge p x)) r out) (e ∙ ap (λ (x : List ℕ). shake256 x (p .cstream)) (append-nil c~))
+      (got-of (p .q) (challenge p bs) (drawnC p bs) (tied-c p bs) r out i)
+
+-- ---- y: every code is allowed
+scan-all : {A : Type 0} (d : A) (ok : A → Bool) (i : ℕ) (xs : List A) → ((k : ℕ) → k < length xs → ok (getD xs k d) ≡ true) → scan ok i xs ≡ AllRead
+unfolding scan
+scan-all d ok i [] h = refl
+scan-all d ok i (x ∷ xs) h = rw (h 0 (omega arith)) (scan-all d ok (suc i) xs (λ k l. h (suc k) (omega arith)))
+
+module _ (p : Set) (G : Good p) (bs old : List ℕ) (l : length old ≡ p .n) where
+  all-codes : scan (allowed (yLayout p)) 0 (codes (p .zbits) (length old) bs) ≡ AllRead
+  all-codes =
+      scan-all 0 (allowed (yLayout p)) 0 (codes (p .zbits) (length old) bs)
+      (λ k m.
+      let b = codes-below (p .zbits) (length old) bs k in
+      allowed-of (yLayout p) (getD (codes (p .zbits) (length old) bs) k 0) (omega arith) (omega arith))
+
+  got-codes : (ρ : List ℕ) (κ lo hi : ℕ) (r : Unpacked) (out : List ℕ) → lo ≡ κ % 256 → hi ≡ κ / 256 → κ < 65536
+      → bs ≡ shake256 (ρ ++ ((lo ∷ hi ∷ []) ++ [])) (size (yLayout p) (p .n)) → Is (unpackedTo (yLayout p) (p .q) bs old) r out
+      → out ≡ map (residue (p .q)) (expandY p shake256 ρ κ)
+  unfolding expandY digits
+  got-codes ρ κ lo hi r out el eh k e i =
+      i .leaves ∙
+      ap (λ (u : Unpacked). writtenTo u (remainders (yLayout p) (p .q) (codes (p .zbits) (length old) bs)) old) all-codes ∙
+      sym (residues-means (yLayout p) (p .q) (y-readable p G) (codes (p .zbits) (length old) bs)) ∙
+      rw (l, e, el, eh)
+      (ap (λ (h : ℕ). map (residue (p .q)) (map (means (yLayout p)) (codes (p .zbits) (p .n) (shake256 (ρ ++ (κ % 256 ∷ h ∷ [])) (size (yLayout p) (p .n)))))) high)
+    where
+      high : κ / 256 ≡ κ / 256 % 256
+      high = omega arith
+
+  -- as a call gives it: the layout is one that the code has made
+  pub got-y : (y : Layout) → y ≡ yLayout p → (ρ : List ℕ) (κ lo hi : ℕ) (r : Unpacked) (out : List ℕ) → lo ≡ κ % 256 → hi ≡ κ / 256
+      → κ < 65536 → bs ≡ shake256 (ρ ++ ((lo ∷ hi ∷ []) ++ [])) (size (yLayout p) (p .n)) → Is (unpackedTo y (p .q) bs old) r out
+      → out ≡ map (residue (p .q)) (expandY p shake256 ρ κ)
+  got-y y is ρ κ lo hi r out el eh k e i = got-codes ρ κ lo hi r out el eh k e (subst (λ (l : Layout). Is (unpackedTo l (p .q) bs old) r out) is i)
+
+  -- what the call asks
+  pub asks-y : (y : Layout) → y ≡ yLayout p → (m : List ℕ) (k : ℕ) → bs ≡ shake256 m k → k ≡ size (yLayout p) (p .n)
+      → Readable y (p .q) × (length bs ≡ size y (length old)) × (length old ≤ 4096)
+  asks-y y is m k e h =
+      (subst (λ (x : Layout). Readable x (p .q)) (sym is) (y-readable p G), ap length e ∙ length-shake256 m k ∙ h ∙ rw (l, is) refl, omega (arith, l, G .nRoom))

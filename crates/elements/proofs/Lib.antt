@@ -1,0 +1,3 @@
+-- The laws of elements and bytes.
+pub mod Codes
+pub mod Expanding

@@ -1,0 +1,2 @@
+-- Elements and bytes.
+pub mod Expanded

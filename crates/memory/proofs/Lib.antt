@@ -1,0 +1,4 @@
+pub mod Filling
+pub mod Placing
+pub mod Bridges
+pub mod Holding
