@@ -1,0 +1,4 @@
+pub mod Stages
+pub mod Norms
+pub mod Judging
+pub mod Trying
