@@ -127,11 +127,11 @@ pub record Drew (p : Set) (S : Signer) (κ : ℕ) (work c~ : List ℕ) (size : �
   pub is : expandC p shake256 c~ ≡ drew c
   pub held : Upto p S κ c 7 work
 
-filled-all : (p : Set) (k : ℕ) (m : Result (List ℤ)) (work more : List ℕ) (r : Sampled) → r ≡ All → Filled p k m work r more
+pub filled-all : (p : Set) (k : ℕ) (m : Result (List ℤ)) (work more : List ℕ) (r : Sampled) → r ≡ All → Filled p k m work r more
     → (zs : List ℤ) × (m ≡ done zs) × Wrote (p .n) k (map (residue (p .q)) zs) work more
 filled-all p k m work more r e f = subst (λ (x : Sampled). Filled p k m work x more) e f
 
-filled-dry : (p : Set) (k : ℕ) (m : Result (List ℤ)) (work more : List ℕ) (r : Sampled) → r ≡ Dry → Filled p k m work r more
+pub filled-dry : (p : Set) (k : ℕ) (m : Result (List ℤ)) (work more : List ℕ) (r : Sampled) → r ≡ Dry → Filled p k m work r more
     → (m ≡ refused DryStream) × Touched (p .n) k work more
 filled-dry p k m work more r e f = subst (λ (x : Sampled). Filled p k m work x more) e f
 

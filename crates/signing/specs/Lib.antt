@@ -1,2 +1,3 @@
 -- What signing's memory holds from stage to stage.
 pub mod Stages
+pub mod Calls

@@ -1,2 +1,3 @@
 // Signing (002, Algorithm 9; 01, "Making, signing, checking").
+pub mod sign;
 pub mod tries;
