@@ -5,3 +5,4 @@ pub mod Trying
 pub mod Sizes
 pub mod Keys
 pub mod Outcomes
+pub mod Checks

@@ -24,7 +24,7 @@ ghost use Rattle.packing.specs.Layouts.{zLayout, hintLayout, holds, pack};
 ghost use Rattle.packing.specs.Parts.{join, total, secretParts, signatureParts};
 ghost use Rattle.ring.specs.Profile.{trinomial};
 ghost use Rattle.slots.specs.Slots.{slot};
-ghost use Rattle.scheme.specs.Sign.{muOf, signOutcome, sign};
+ghost use Rattle.scheme.specs.Sign.{muOf, rhoOf, signOutcome, sign};
 ghost use Rattle.signing.specs.Stages.{Ready};
 ghost use Rattle.signing.specs.Calls.{KeyRead, signedFrom};
 
@@ -107,4 +107,43 @@ fn sign_from(p: Numbers, key: &[u8], mu: &[u8], rho: &[u8], limit: u32, signatur
             Signing::Signed(kappa + 1)
         }
     }
+}
+
+// "μ = H(ph then M, 64); ρ = H(K then μ, 64)", in lent memory. The message is read where it lies.
+fn sign_in(p: Numbers, key: &[u8], message: &[u8], limit: u32, signature: &mut [u8], work: &mut [u32], mu: &mut [u8], rho: &mut [u8], commitment: &mut [u8]) -> Signing
+    requires { ⌜ Trinomial p × (11 * p .n ≤ length (now work)) ⌝ }
+    requires { ⌜ (length (now key) ≡ total (secretParts p)) × (length (now signature) ≡ total (signatureParts p)) × (limit ≤ 1000) × (length (now commitment) ≡ 32) ⌝ }
+    requires { ⌜ (length (now mu) ≡ 64) × (length (now rho) ≡ 64) ⌝ }
+    ensures { λ r. ⌜ Is (signOutcome limit (signedFrom p (now (key .entry)) (now (message .entry)) (rhoOf (trinomial p) shake256 (now (key .entry)) (now (message .entry))) limit) (now (signature .entry))) (signingReport r) (now (signature .exit)) ⌝ }
+{
+    shake::shake256(&key[32..64], message, b"", mu);
+    shake::shake256(&key[64..96], mu, b"", rho);
+    sign_from(p, key, mu, rho, limit, signature, work, commitment)
+}
+
+// "Order of checks: by number, 8 and 9 last."
+pub fn sign(p: Numbers, key: &[u8], message: &[u8], limit: u32, signature: &mut [u8], work: &mut [u32]) -> Signing
+    requires { ⌜ Trinomial p ⌝ }
+    requires { ⌜ 11 * p .n ≤ length (now work) ⌝ }
+    ensures { λ r. ⌜ Is (signOutcome limit (sign (trinomial p) shake256 (now (key .entry)) (now (message .entry)) limit (now (signature .entry))) (now (signature .entry))) (signingReport r) (now (signature .exit)) ⌝ }
+{
+    if key.len() != secret_size(p) {
+        return Signing::Refused(Refusal::Length(Buffer::SecretKey), 0);
+    }
+    if signature.len() != signature_size(p) {
+        return Signing::Refused(Refusal::Length(Buffer::Signature), 0);
+    }
+    if limits::MESSAGE_MAX < message.len() {
+        return Signing::Refused(Refusal::LongMessage, 0);
+    }
+    if limit < 1 {
+        return Signing::Refused(Refusal::TryLimit, 0);
+    }
+    if limits::TRY_MAX < limit {
+        return Signing::Refused(Refusal::TryLimit, 0);
+    }
+    let mut mu = [0u8; 64];
+    let mut rho = [0u8; 64];
+    let mut commitment = [0u8; 32];
+    sign_in(p, key, message, limit, signature, work, &mut mu, &mut rho, &mut commitment)
 }
