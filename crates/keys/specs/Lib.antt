@@ -1,0 +1,2 @@
+-- What each step of key making does.
+pub mod Steps

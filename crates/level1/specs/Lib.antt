@@ -1,0 +1,1 @@
+-- The entries of trinomial level 1 cite the scheme's definitions.

@@ -1,0 +1,38 @@
+// Trinomial level 1: key making, signing and checking on bytes that nobody has checked.
+use sets::refusal::Answer;
+use sets::refusal::Signing;
+use sets::trinomial1::Trinomial1;
+ghost use mathlib.Core.Path.{_≡_};
+ghost use Rattle.outcome.specs.Outcome.{Is};
+ghost use Rattle.sets.specs.Refusals.{reportOf, signingReport};
+ghost use Rattle.sets.specs.Result.{outcome};
+ghost use Rattle.shake.specs.Shake.{shake256};
+ghost use Rattle.ring.specs.Profile.{set1};
+ghost use Rattle.scheme.specs.Keys.{Pair, makeKeys};
+ghost use Rattle.scheme.specs.Sign.{signOutcome, sign};
+
+// The memory that a call works in: 11 elements.
+const WORK: usize = 11 * Trinomial1::N;
+
+// Makes a key pair from two seeds of 32 bytes.
+pub fn make_keys(zeta: &[u8], prime: &[u8], public: &mut [u8], secret: &mut [u8]) -> Answer
+    ensures { λ r. ⌜ Is (outcome (makeKeys set1 shake256 (now (zeta .entry)) (now (prime .entry)) (now (public .entry)) (now (secret .entry))) record { public = now (public .entry); secret = now (secret .entry) }) (reportOf r) record { public = now (public .exit); secret = now (secret .exit) } ⌝ }
+{
+    let mut work = [0u32; WORK];
+    keys::make_keys(Trinomial1::numbers(), zeta, prime, public, secret, &mut work)
+}
+
+// Signs a message of at most 32,768 bytes with at most `limit` tries, 1 to 1,000. The answer carries the count of tries.
+pub fn sign(key: &[u8], message: &[u8], limit: u32, signature: &mut [u8]) -> Signing
+    ensures { λ r. ⌜ Is (signOutcome limit (sign set1 shake256 (now (key .entry)) (now (message .entry)) limit (now (signature .entry))) (now (signature .entry))) (signingReport r) (now (signature .exit)) ⌝ }
+{
+    let mut work = [0u32; WORK];
+    signing::sign::sign(
+        Trinomial1::numbers(),
+        key,
+        message,
+        limit,
+        signature,
+        &mut work,
+    )
+}
