@@ -6,11 +6,14 @@
 
 #![forbid(unsafe_code)]
 
+pub mod cases;
 pub mod packing;
 pub mod refusal;
+pub mod replay;
 pub mod ring;
 pub mod rounding;
 pub mod sampling;
 pub mod scheme;
 pub mod set;
 pub mod shake;
+pub mod vectors;

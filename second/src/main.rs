@@ -7,7 +7,9 @@ use std::fs;
 use std::io::{self, Write};
 use std::process::ExitCode;
 
+use second::cases;
 use second::refusal::Refusal;
+use second::replay::{replay, Second};
 use second::scheme::{check, make_keys, sign};
 use second::set::{PUBLIC_KEY, SECRET_KEY, SIGNATURE};
 use second::shake::Absorb;
@@ -17,6 +19,8 @@ second make-keys ZETA ZETA' PK SK     make a key pair from two files of 32 bytes
 second sign SK MESSAGE LIMIT SIG      sign; prints the refusal number and the count of tries
 second check PK SIG MESSAGE           check; prints the refusal number
 second shake IN OUTLEN                print OUTLEN bytes of SHAKE256 in hex
+second vectors FILE                   write the vector file of VECTORS.md; prints what it has
+second replay FILE                    hold this program to a vector file; prints what it has
 second help                           print this
 ";
 
@@ -58,9 +62,11 @@ fn run(arguments: &[&str]) -> Result<(), Failure> {
         ["sign", secret_key, message, limit, signature] => run_sign(secret_key, message, limit, signature),
         ["check", public_key, signature, message] => run_check(public_key, signature, message),
         ["shake", input, length] => run_shake(input, length),
+        ["vectors", file] => run_vectors(file),
+        ["replay", file] => run_replay(file),
         ["help"] => say(HELP),
         [] => Err(Failure::Use("no subcommand; try: second help".into())),
-        [name @ ("make-keys" | "sign" | "check" | "shake" | "help"), ..] => {
+        [name @ ("make-keys" | "sign" | "check" | "shake" | "vectors" | "replay" | "help"), ..] => {
             Err(Failure::Use(format!("wrong count of arguments for {name}; try: second help")))
         }
         [name, ..] => Err(Failure::Use(format!("unknown subcommand {name}; try: second help"))),
@@ -112,6 +118,31 @@ fn run_shake(input: &str, length: &str) -> Result<(), Failure> {
         left -= now as u64;
     }
     say("\n")
+}
+
+fn run_vectors(path: &str) -> Result<(), Failure> {
+    let (file, has) = cases::file();
+    write(path, &file)?;
+    let [keys, signing, checks, patches] = has.counts;
+    say(&format!(
+        "{path}: {} bytes; {keys} records of key making, {signing} of signing, {checks} of checking, {patches} patches\n\
+         {} signatures, {} of them whole; {} run out of tries; {} tries in all, at most {} in a call; {} damaged inputs\n",
+        file.len(),
+        has.signatures,
+        has.whole,
+        has.spent,
+        has.tries,
+        has.most_tries,
+        has.damaged
+    ))
+}
+
+fn run_replay(path: &str) -> Result<(), Failure> {
+    let [keys, signing, checks, patches] =
+        replay(&read(path)?, &mut Second).map_err(|why| Failure::Use(format!("{path}: {why}")))?;
+    say(&format!(
+        "{path}: {keys} records of key making, {signing} of signing, {checks} of checking, {patches} patches: as expected\n"
+    ))
 }
 
 fn number(refusal: Option<Refusal>) -> u8 {

@@ -71,7 +71,7 @@ fn shake() {
 fn bad_use() {
     let room = room("bad_use");
     fs::write(room.join("in"), b"abc").unwrap();
-    let wrong: [&[&str]; 10] = [
+    let wrong: [&[&str]; 13] = [
         &[],
         &["unknown"],
         &["help", "me"],
@@ -82,6 +82,9 @@ fn bad_use() {
         &["sign", "in", "in", "99999999999", "out"],
         &["check", "in", "in"],
         &["make-keys", "in", "missing", "pk", "sk"],
+        &["vectors"],
+        &["replay", "missing"],
+        &["replay", "in"],
     ];
     for arguments in wrong {
         let (status, out, error) = run(&room, arguments);

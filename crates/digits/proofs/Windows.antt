@@ -80,11 +80,15 @@ place-room w i l m = mul-le-mul l m′
     m′ : i ≤ 2 ^ 32
     m′ = omega arith
 
--- 1 << w, of a 32-bit word
+-- 1 << w, of a word of b numbers that has room for it
+pub one-shifted-in : (b m w : ℕ) → 2 ^ m < b → w ≤ m → 1 * 2 ^ w % b ≡ 2 ^ w
+one-shifted-in b m w h l =
+    let k : 2 ^ w ≤ 2 ^ m = pow-mono l in
+    ap (λ (x : ℕ). x % b) {x = 1 * 2 ^ w} {y = 2 ^ w} (omega arith) ∙ mod-eq-of-lt (omega arith)
+
+-- of a 32-bit word
 pub one-shifted : (w : ℕ) → w ≤ 25 → 1 * 2 ^ w % 4294967296 ≡ 2 ^ w
-one-shifted w l =
-    let m : 2 ^ w ≤ 2 ^ 25 = pow-mono l in
-    ap (λ (x : ℕ). x % 4294967296) {x = 1 * 2 ^ w} {y = 2 ^ w} (omega arith) ∙ mod-eq-of-lt (omega arith)
+one-shifted w l = one-shifted-in 4294967296 25 w (omega arith) l
 
 -- a field of w bits from bit p on, found in the four bytes from byte p / 8 on
 pub field-in-window : (bs : List ℕ) (w p : ℕ) → w ≤ 25 → ((k : ℕ) → getD bs k 0 < 256)

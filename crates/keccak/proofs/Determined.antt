@@ -1,11 +1,8 @@
--- Any two outcomes that the contract of `permute` permits, as the check reads it, are equal. Assumes nothing.
-use mathlib.Core.Path.{_≡_, sym, _∙_}
-use contract.Lifetimes.{Lfts}
-use denote.Triple.Clauses.{AtExit}
-use borrow.Fn.Kinds.{Dens, resT, endedOf}
-use Rattle.keccak.proofs.permute.Reads as reads
-use Rattle.keccak.proofs.permute.Kinds as kinds
+-- Each public contract of this crate permits one outcome.
+use mathlib.Core.Path.{refl, sym, _∙_}
+use Rattle.outcome.proofs.One.{One}
+use Rattle.keccak.proofs.permute.Reads as permute
+use Rattle.keccak.proofs.permute.Kinds as permute-kinds
 
-pub permute-permits-one : (κs : Lfts 0) (a : Dens κs kinds.ps) (r r′ : resT kinds.r κs .Denot) (s s′ : AtExit (endedOf 0 kinds.ps kinds.r) κs)
-    → reads.Post κs a r s → reads.Post κs a r′ s′ → r ≡ r′
-permute-permits-one κs a r r′ s s′ p q = p ∙ sym q
+pub permute-one : One 0 permute-kinds.ps permute-kinds.r permute.Post (λ κs s. tt {0})
+permute-one κs a x y s t p q = (p ∙ sym q, refl)

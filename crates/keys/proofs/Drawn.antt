@@ -20,7 +20,7 @@ use Rattle.sampling.proofs.Drawing.{expanded-a, expanded-s}
 use Rattle.scheme.specs.Keys.{seedParts, makePair}
 use Rattle.memory.specs.Filled.{Filled}
 use Rattle.memory.proofs.Holding.{holds-kept, holds-wrote}
-use Rattle.keys.specs.Steps.{Elements, Drew}
+use Rattle.keys.specs.Steps.{Drew}
 
 -- ---- a dry stream ends the definition
 module _ (p : Set) (ζ seeds ζ′ : List ℕ) (e : seeds ≡ shake256 ζ′ 96) where

@@ -17,7 +17,7 @@ use Rattle.shake.specs.Shake.{shake256}
 use Rattle.ring.specs.Engine.{Residues}
 use Rattle.ring.specs.Profile.{trinomial}
 use Rattle.packing.specs.Layouts.{t1Layout, t0Layout, sLayout}
-use Rattle.packing.specs.Parts.{PublicKey, SecretKey, packPublic, packSecret, part, total, publicParts, secretParts}
+use Rattle.packing.specs.Parts.{packPublic, packSecret, part, total, publicParts, secretParts}
 use Rattle.sampling.specs.declared.Sampled.{Sampled}
 use Rattle.sampling.specs.declared.Sampled.the-variants.{All, Dry}
 use Rattle.sampling.specs.Streams.{expandS}

@@ -17,7 +17,7 @@ use Rattle.ring.proofs.Lists.{length-tab, at-tab}
 use Rattle.packing.specs.declared.layout.Layout.{Layout}
 use Rattle.packing.specs.Layouts.{t1Layout, t0Layout, sLayout, code, holds, size}
 use Rattle.packing.specs.Engine.{Readable}
-use Rattle.packing.proofs.Kept.{Kept, holds-of}
+use Rattle.packing.proofs.Kept.{holds-of}
 use Rattle.packing.proofs.Elements.{Element}
 use Rattle.packing.proofs.Reading.{means-small}
 use Rattle.packing.proofs.Room.{t1-readable, t0-readable, s-readable}

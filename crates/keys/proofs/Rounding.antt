@@ -4,7 +4,7 @@ use mathlib.Core.List.{List, [], _∷_, map}
 use Prim.Native.Nat.{ℕ, suc, _<_}
 use native.Mathlib.Omega.{arith}
 use lib.IntN.{ℤ, pos}
-use lib.ListN.{length, getD, length-map}
+use lib.ListN.{getD, length-map}
 use Rattle.sets.specs.Set.{Set}
 use Rattle.sets.specs.Good.{Trinomial}
 use Rattle.residues.specs.Remainder.{residue}
@@ -12,7 +12,6 @@ use Rattle.residues.proofs.Remainders.{residue-small}
 use Rattle.rounding.proofs.Congruent.{q-pos}
 use Rattle.ring.specs.Engine.{multiplied, Residues}
 use Rattle.ring.specs.Profile.{trinomial, mul}
-use Rattle.scheme.specs.Elements.{powerHighs, powerLows}
 use Rattle.scheme.specs.Keys.{keyT}
 use Rattle.slots.specs.Slots.{slot, Wrote}
 use Rattle.slots.specs.Elements.{added, powerHighsOf, powerLowsOf}

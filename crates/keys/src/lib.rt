@@ -13,14 +13,14 @@ ghost use Prim.Native.Nat.{ℕ, _*_, _≤_};
 ghost use lib.ListN.{length};
 ghost use lib.IntN.{ℤ};
 ghost use Rattle.outcome.specs.Outcome.{Is};
-ghost use Rattle.sets.specs.Good.{Good, Trinomial};
+ghost use Rattle.sets.specs.Good.{Trinomial};
 ghost use Rattle.sets.specs.Refusals.{reportOf};
 ghost use Rattle.sets.specs.Result.{outcome};
 ghost use Rattle.shake.specs.Shake.{shake256};
 ghost use Rattle.ring.specs.Engine.{Residues};
 ghost use Rattle.ring.specs.Profile.{trinomial};
 ghost use Rattle.packing.specs.Parts.{total, publicParts, secretParts};
-ghost use Rattle.scheme.specs.Keys.{makePair, makeKeys, Pair};
+ghost use Rattle.scheme.specs.Keys.{makePair, makeKeys};
 ghost use Rattle.slots.specs.Slots.{slot};
 ghost use Rattle.memory.specs.Holds.{Holds};
 ghost use Rattle.keys.specs.Steps.{Drew, Rounded};
@@ -38,10 +38,10 @@ const T1: usize = 4;
 
 const T0: usize = 5;
 
-// "H(ζ', 96) is ξ1, ξ2, K."
+// "H(ζ', 96) is ξ1, ξ2, K." (line 2)
 const SEEDS: usize = 96;
 
-// a from ζ, s1 from ξ1 and s2 from ξ2 (lines 1 and 2).
+// a from ζ, s1 from ξ1 and s2 from ξ2 (lines 3 and 4).
 fn draw(p: Numbers, zeta: &[u8], seeds: &[u8], work: &mut [u32]) -> Sampled
     requires { ⌜ Trinomial p ⌝ }
     requires { ⌜ (length (now seeds) ≡ 96) × (11 * p .n ≤ length (now work)) ⌝ }
@@ -56,7 +56,7 @@ fn draw(p: Numbers, zeta: &[u8], seeds: &[u8], work: &mut [u32]) -> Sampled
     memory::fill_s(p, &seeds[32..64], work, S2)
 }
 
-// t = a·s1 + s2, and its two parts (lines 3 and 4).
+// t = a·s1 + s2, and its two parts (lines 5 and 6).
 fn round(p: Numbers, work: &mut [u32])
     requires { ⌜ Trinomial p ⌝ }
     requires { ⌜ 11 * p .n ≤ length (now work) ⌝ }
@@ -91,7 +91,8 @@ fn make_in(
     Answer::Done
 }
 
-// ζ and ζ' are 32 bytes each. The lengths are refused in the order of the parameters, then a stream that is dry. A refusal leaves both keys as they were.
+// The two keys. A wrong length is refused in the order of the parameters, and a dry stream after that.
+// A refusal leaves both keys as they were, since they are written last.
 pub fn make_keys(
     p: Numbers,
     zeta: &[u8],

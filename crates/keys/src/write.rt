@@ -8,7 +8,7 @@ ghost use lib.ListN.{length};
 ghost use Rattle.sets.specs.Good.{Good, Trinomial};
 ghost use Rattle.shake.specs.Shake.{shake256};
 ghost use Rattle.packing.specs.Layouts.{t1Layout, t0Layout, sLayout, size, pack};
-ghost use Rattle.packing.specs.Parts.{PublicKey, SecretKey, packPublic, packSecret, total, publicParts, secretParts};
+ghost use Rattle.packing.specs.Parts.{packPublic, packSecret, total, publicParts, secretParts};
 ghost use Rattle.slots.specs.Slots.{Within};
 ghost use Rattle.memory.specs.Put.{put};
 ghost use Rattle.keys.specs.Steps.{Ready, values};
@@ -38,7 +38,7 @@ pub fn secret_size(p: Numbers) -> usize
     96 + s + s + Layout::t0(p).size(p.n)
 }
 
-// ζ, then t1 (line 6).
+// ζ, then t1 (line 8).
 fn public(p: Numbers, zeta: &[u8], work: &[u32], out: &mut [u8])
     requires { ⌜ Trinomial p ⌝ }
     requires { ⌜ (length (now zeta) ≡ 32) × (11 * p .n ≤ length (now work)) × (length (now out) ≡ total (publicParts p)) ⌝ }
@@ -59,7 +59,7 @@ fn put_s(p: Numbers, work: &[u32], k: usize, out: &mut [u8], at: usize)
     memory::parts::put_packed(p, Layout::s(p), work, k, out, at);
 }
 
-// ζ, ph, K, s1, s2, t0 (line 7).
+// ζ, ph, K, s1, s2, t0 (line 8).
 fn secret(p: Numbers, zeta: &[u8], ph: &[u8], k: &[u8], work: &[u32], out: &mut [u8])
     requires { ⌜ Trinomial p ⌝ }
     requires { ⌜ (length (now zeta) ≡ 32) × (length (now ph) ≡ 32) × (length (now k) ≡ 32) × (11 * p .n ≤ length (now work)) × (length (now out) ≡ total (secretParts p)) ⌝ }
@@ -75,7 +75,7 @@ fn secret(p: Numbers, zeta: &[u8], ph: &[u8], k: &[u8], work: &[u32], out: &mut 
     memory::parts::put_packed(p, Layout::t0(p), work, crate::T0, out, 96 + size + size);
 }
 
-// Both keys: "ph = H(ζ then packed t1, 32)" (line 5) is the hash of the public key.
+// Both keys: "ph = H(ζ then packed t1, 32)" (line 7) is the hash of the public key.
 pub fn both(
     p: Numbers,
     zeta: &[u8],

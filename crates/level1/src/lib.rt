@@ -5,9 +5,10 @@ use sets::trinomial1::Trinomial1;
 ghost use mathlib.Core.Path.{_≡_};
 ghost use Rattle.outcome.specs.Outcome.{Is};
 ghost use Rattle.sets.specs.Refusals.{reportOf, signingReport};
-ghost use Rattle.sets.specs.Result.{outcome};
+ghost use Rattle.sets.specs.Result.{outcome, told};
 ghost use Rattle.shake.specs.Shake.{shake256};
 ghost use Rattle.ring.specs.Profile.{set1};
+ghost use Rattle.scheme.specs.Check.{check};
 ghost use Rattle.scheme.specs.Keys.{Pair, makeKeys};
 ghost use Rattle.scheme.specs.Sign.{signOutcome, sign};
 
@@ -35,4 +36,12 @@ pub fn sign(key: &[u8], message: &[u8], limit: u32, signature: &mut [u8]) -> Sig
         signature,
         &mut work,
     )
+}
+
+// Checks a signature of a message under a public key.
+pub fn check(public: &[u8], signature: &[u8], message: &[u8]) -> Answer
+    ensures { λ r. ⌜ reportOf r ≡ told (check set1 shake256 (now (public .entry)) (now (signature .entry)) (now (message .entry))) ⌝ }
+{
+    let mut work = [0u32; WORK];
+    checking::check(Trinomial1::numbers(), public, signature, message, &mut work)
 }

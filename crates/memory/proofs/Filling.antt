@@ -55,14 +55,15 @@ module _ (p : Set) (k : ℕ) (work : List ℕ) (w : Within (p .n) k work) where
     pub read-in : (r : Unpacked) (out : List ℕ) → length out ≡ p .n → Is (unpackedTo L (p .q) bs old) r out
         → ReadIn p k L bs work r (putMid (k * p .n) (k * p .n + p .n - k * p .n) work out)
     read-in AllRead out lo i =
-        let all : scan (allowed L) 0 (codes (L .bits) (p .n) bs) ≡ AllRead = ap (λ (m : ℕ). scan (allowed L) 0 (codes (L .bits) m bs)) (sym l) ∙ sym (i .answers) in
-        (map (means L) (codes (L .bits) (p .n) bs),
-        λ f. unpack-all L f (p .n) bs all,
-        filled-with (map (residue (p .q)) (map (means L) (codes (L .bits) (p .n) bs))) out lo
-        (i .leaves ∙
-        ap (λ (m : ℕ). writtenTo (scan (allowed L) 0 (codes (L .bits) m bs)) (remainders L (p .q) (codes (L .bits) m bs)) old) l ∙
-        ap (λ (u : Unpacked). writtenTo u (remainders L (p .q) (codes (L .bits) (p .n) bs)) old) all ∙
-        sym (residues-means L (p .q) R (codes (L .bits) (p .n) bs))))
+        let all : scan (allowed L) 0 (codes (L .bits) (p .n) bs) ≡ AllRead = ap (λ (m : ℕ). scan (allowed L) 0 (codes (L .bits) m bs)) (sym l) ∙ sym (i .answers) in (
+          map (means L) (codes (L .bits) (p .n) bs),
+          λ f. unpack-all L f (p .n) bs all,
+          filled-with (map (residue (p .q)) (map (means L) (codes (L .bits) (p .n) bs))) out lo
+              (i .leaves ∙
+              ap (λ (m : ℕ). writtenTo (scan (allowed L) 0 (codes (L .bits) m bs)) (remainders L (p .q) (codes (L .bits) m bs)) old) l ∙
+              ap (λ (u : Unpacked). writtenTo u (remainders L (p .q) (codes (L .bits) (p .n) bs)) old) all ∙
+              sym (residues-means L (p .q) R (codes (L .bits) (p .n) bs))),
+        )
     read-in (BadAt j) out lo i =
         λ f. unpack-bad L f (p .n) bs j (ap (λ (m : ℕ). scan (allowed L) 0 (codes (L .bits) m bs)) (sym l) ∙ sym (i .answers))
 
@@ -80,11 +81,16 @@ module _ (p : Set) (k : ℕ) (work : List ℕ) (w : Within (p .n) k work) (L : L
       ((((i : ℕ) → getD lent i 0 < p .q) × ((i : ℕ) → i < length lent → holds L (signed (p .q) (getD lent i 0)) ≡ true)) ×
       ((length lent ≤ capacity) × (m ≡ size L (length lent))))
   asks-pack T R m e r h =
-      let long = part-long (p .n) k work w in
-      (R,
-      ((subst (λ (xs : List ℕ). (i : ℕ) → getD xs i 0 < p .q) (sym lent-is) (r .each),
-      subst (λ (xs : List ℕ). (i : ℕ) → i < length xs → holds L (signed (p .q) (getD xs i 0)) ≡ true) (sym lent-is) (λ i l. h i (omega (arith, r .long)))),
-      (omega (arith, long, T .held), e ∙ sym (ap (λ (x : ℕ). size L x) long))))
+      let long = part-long (p .n) k work w in (
+        R,
+        (
+          (
+            subst (λ (xs : List ℕ). (i : ℕ) → getD xs i 0 < p .q) (sym lent-is) (r .each),
+            subst (λ (xs : List ℕ). (i : ℕ) → i < length xs → holds L (signed (p .q) (getD xs i 0)) ≡ true) (sym lent-is) (λ i l. h i (omega (arith, r .long))),
+          ),
+          (omega (arith, long, T .held), e ∙ sym (ap (λ (x : ℕ). size L x) long)),
+        ),
+      )
 
   pub packed-from : (bs : List ℕ) → bs ≡ pack L (length lent) (map (signed (p .q)) lent) → bs ≡ pack L (p .n) (map (signed (p .q)) (slot (p .n) k work))
   packed-from bs e = e ∙ (λ i. pack L (part-long (p .n) k work w i) (map (signed (p .q)) (lent-is i)))

@@ -37,7 +37,14 @@ pub fn put_packed(p: Numbers, l: Layout, work: &[u32], k: usize, out: &mut [u8],
 }
 
 // Element k from the packed bytes at a place.
-pub fn read_part(p: Numbers, l: Layout, bytes: &[u8], at: usize, work: &mut [u32], k: usize) -> Unpacked
+pub fn read_part(
+    p: Numbers,
+    l: Layout,
+    bytes: &[u8],
+    at: usize,
+    work: &mut [u32],
+    k: usize,
+) -> Unpacked
     requires { ⌜ Good p × Readable l (p .q) ⌝ }
     requires { ⌜ (k < 12) × Within (p .n) k (now work) × (at + size l (p .n) ≤ length (now bytes)) × (length (now bytes) < 2 ^ 32) ⌝ }
     ensures { λ r. ⌜ ReadIn p k l (take (size l (p .n)) (drop at (now (bytes .entry)))) (now (work .entry)) r (now (work .exit)) ⌝ }

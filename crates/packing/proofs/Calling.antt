@@ -15,7 +15,7 @@ use Rattle.packing.specs.declared.layout.Layout.{Layout}
 use Rattle.packing.specs.Layouts.{hintLayout, holds, every, size, pack, unpack}
 use Rattle.packing.specs.Parts.{ones, anyHint, readHints}
 use Rattle.packing.specs.Calls.{packCall, unpackCall, packHintsCall, unpackHintsCall}
-use Rattle.packing.proofs.Answers.{after-done, after-refused}
+use Rattle.sets.proofs.Results.{then-done, then-refused}
 
 -- two lengths, then the rest of the call
 module _ {A : Type 0} (a b c d : ℕ) (r s : Refusal) (m : Result A) where
@@ -51,13 +51,13 @@ module _ (L : Layout) (refusal : ℕ → Refusal) (n : ℕ) (values : List ℤ) 
     unfolding packCall lengths packing
     pack-refused r h =
         both-right (length values) n (length out) (size L n) (Length Coefficients) (Length Packed) packing e f ∙
-        after-refused (every (holds L) refusal 0 values) r (done (pack L n values)) h
+        then-refused (every (holds L) refusal 0 values) r (done (pack L n values)) h
 
     pub pack-done : every (holds L) refusal 0 values ≡ done tt → packCall L refusal n values out ≡ done (pack L n values)
     unfolding packCall lengths packing
     pack-done h =
         both-right (length values) n (length out) (size L n) (Length Coefficients) (Length Packed) packing e f ∙
-        after-done (every (holds L) refusal 0 values) tt (done (pack L n values)) h
+        then-done (every (holds L) refusal 0 values) tt (done (pack L n values)) h
 
 module _ (L : Layout) (refusal : ℕ → Refusal) (n : ℕ) (packed : List ℕ) (out : List ℤ) where
   pub unpack-wrong-packed : (length packed ≡ size L n → ⊥) → unpackCall L refusal n packed out ≡ refused (Length Packed)
@@ -96,19 +96,19 @@ module _ (p : Set) (values : List ℤ) (out : List ℕ) where
 
     pub pack-hints-refused : every (holds hintLayout) anyHint 0 values ≡ refused Hint → packHintsCall p values out ≡ refused Hint
     unfolding packing-hints
-    pack-hints-refused h = right ∙ after-refused (every (holds hintLayout) anyHint 0 values) Hint counted h
+    pack-hints-refused h = right ∙ then-refused (every (holds hintLayout) anyHint 0 values) Hint counted h
 
     module _ (h : every (holds hintLayout) anyHint 0 values ≡ done tt) where
       pub pack-hints-many : p .omega < ones values → packHintsCall p values out ≡ refused Hint
       unfolding packing-hints counted
       pack-hints-many l =
-          right ∙ after-done (every (holds hintLayout) anyHint 0 values) tt counted h ∙
+          right ∙ then-done (every (holds hintLayout) anyHint 0 values) tt counted h ∙
           above (ones values) (p .omega) Hint (done (pack hintLayout (p .n) values)) l
 
       pub pack-hints-done : ones values ≤ p .omega → packHintsCall p values out ≡ done (pack hintLayout (p .n) values)
       unfolding packing-hints counted
       pack-hints-done l =
-          right ∙ after-done (every (holds hintLayout) anyHint 0 values) tt counted h ∙
+          right ∙ then-done (every (holds hintLayout) anyHint 0 values) tt counted h ∙
           at-most (ones values) (p .omega) Hint (done (pack hintLayout (p .n) values)) l
 
 module _ (p : Set) (packed : List ℕ) (out : List ℤ) where

@@ -3,22 +3,22 @@ use mathlib.Core.Path.{refl, sym, _∙_}
 use denote.Ref.{now}
 use Rattle.outcome.proofs.One.{One, determined}
 use Rattle.sets.proofs.Outcomes.{determined-report}
-use Rattle.packing.proofs.layout.Layout.t1.Reads as t1-layout
-use Rattle.packing.proofs.layout.Layout.t1.Kinds as t1-layout-kinds
-use Rattle.packing.proofs.layout.Layout.t0.Reads as t0-layout
-use Rattle.packing.proofs.layout.Layout.t0.Kinds as t0-layout-kinds
-use Rattle.packing.proofs.layout.Layout.s.Reads as s-layout
-use Rattle.packing.proofs.layout.Layout.s.Kinds as s-layout-kinds
-use Rattle.packing.proofs.layout.Layout.z.Reads as z-layout
-use Rattle.packing.proofs.layout.Layout.z.Kinds as z-layout-kinds
-use Rattle.packing.proofs.layout.Layout.y.Reads as y-layout
-use Rattle.packing.proofs.layout.Layout.y.Kinds as y-layout-kinds
-use Rattle.packing.proofs.layout.Layout.w1.Reads as w1-layout
-use Rattle.packing.proofs.layout.Layout.w1.Kinds as w1-layout-kinds
-use Rattle.packing.proofs.layout.Layout.hint.Reads as hint-layout
-use Rattle.packing.proofs.layout.Layout.hint.Kinds as hint-layout-kinds
-use Rattle.packing.proofs.layout.Layout.size.Reads as size-layout
-use Rattle.packing.proofs.layout.Layout.size.Kinds as size-layout-kinds
+use Rattle.packing.proofs.layout.Layout.t1.Reads as layout-t1
+use Rattle.packing.proofs.layout.Layout.t1.Kinds as layout-t1-kinds
+use Rattle.packing.proofs.layout.Layout.t0.Reads as layout-t0
+use Rattle.packing.proofs.layout.Layout.t0.Kinds as layout-t0-kinds
+use Rattle.packing.proofs.layout.Layout.s.Reads as layout-s
+use Rattle.packing.proofs.layout.Layout.s.Kinds as layout-s-kinds
+use Rattle.packing.proofs.layout.Layout.z.Reads as layout-z
+use Rattle.packing.proofs.layout.Layout.z.Kinds as layout-z-kinds
+use Rattle.packing.proofs.layout.Layout.y.Reads as layout-y
+use Rattle.packing.proofs.layout.Layout.y.Kinds as layout-y-kinds
+use Rattle.packing.proofs.layout.Layout.w1.Reads as layout-w1
+use Rattle.packing.proofs.layout.Layout.w1.Kinds as layout-w1-kinds
+use Rattle.packing.proofs.layout.Layout.hint.Reads as layout-hint
+use Rattle.packing.proofs.layout.Layout.hint.Kinds as layout-hint-kinds
+use Rattle.packing.proofs.layout.Layout.size.Reads as layout-size
+use Rattle.packing.proofs.layout.Layout.size.Kinds as layout-size-kinds
 use Rattle.packing.proofs.unpack.unpack.Reads as unpack
 use Rattle.packing.proofs.unpack.unpack.Kinds as unpack-kinds
 use Rattle.packing.proofs.unpack.count_ones.Reads as count-ones
@@ -51,29 +51,29 @@ use Rattle.packing.proofs.level1.unpack_hints.Reads as unpack-hints
 use Rattle.packing.proofs.level1.unpack_hints.Kinds as unpack-hints-kinds
 
 -- ---- the layouts
-pub t1-layout-one : One 0 t1-layout-kinds.ps t1-layout-kinds.r t1-layout.Post (λ κs s. tt {0})
-t1-layout-one κs a x y s t p q = (p ∙ sym q, refl)
+pub layout-t1-one : One 0 layout-t1-kinds.ps layout-t1-kinds.r layout-t1.Post (λ κs s. tt {0})
+layout-t1-one κs a x y s t p q = (p ∙ sym q, refl)
 
-pub t0-layout-one : One 0 t0-layout-kinds.ps t0-layout-kinds.r t0-layout.Post (λ κs s. tt {0})
-t0-layout-one κs a x y s t p q = (p ∙ sym q, refl)
+pub layout-t0-one : One 0 layout-t0-kinds.ps layout-t0-kinds.r layout-t0.Post (λ κs s. tt {0})
+layout-t0-one κs a x y s t p q = (p ∙ sym q, refl)
 
-pub s-layout-one : One 0 s-layout-kinds.ps s-layout-kinds.r s-layout.Post (λ κs s. tt {0})
-s-layout-one κs a x y s t p q = (p ∙ sym q, refl)
+pub layout-s-one : One 0 layout-s-kinds.ps layout-s-kinds.r layout-s.Post (λ κs s. tt {0})
+layout-s-one κs a x y s t p q = (p ∙ sym q, refl)
 
-pub z-layout-one : One 0 z-layout-kinds.ps z-layout-kinds.r z-layout.Post (λ κs s. tt {0})
-z-layout-one κs a x y s t p q = (p ∙ sym q, refl)
+pub layout-z-one : One 0 layout-z-kinds.ps layout-z-kinds.r layout-z.Post (λ κs s. tt {0})
+layout-z-one κs a x y s t p q = (p ∙ sym q, refl)
 
-pub y-layout-one : One 0 y-layout-kinds.ps y-layout-kinds.r y-layout.Post (λ κs s. tt {0})
-y-layout-one κs a x y s t p q = (p ∙ sym q, refl)
+pub layout-y-one : One 0 layout-y-kinds.ps layout-y-kinds.r layout-y.Post (λ κs s. tt {0})
+layout-y-one κs a x y s t p q = (p ∙ sym q, refl)
 
-pub w1-layout-one : One 0 w1-layout-kinds.ps w1-layout-kinds.r w1-layout.Post (λ κs s. tt {0})
-w1-layout-one κs a x y s t p q = (p ∙ sym q, refl)
+pub layout-w1-one : One 0 layout-w1-kinds.ps layout-w1-kinds.r layout-w1.Post (λ κs s. tt {0})
+layout-w1-one κs a x y s t p q = (p ∙ sym q, refl)
 
-pub hint-layout-one : One 0 hint-layout-kinds.ps hint-layout-kinds.r hint-layout.Post (λ κs s. tt {0})
-hint-layout-one κs a x y s t p q = (p ∙ sym q, refl)
+pub layout-hint-one : One 0 layout-hint-kinds.ps layout-hint-kinds.r layout-hint.Post (λ κs s. tt {0})
+layout-hint-one κs a x y s t p q = (p ∙ sym q, refl)
 
-pub size-layout-one : One 0 size-layout-kinds.ps size-layout-kinds.r size-layout.Post (λ κs s. tt {0})
-size-layout-one κs a x y s t p q = (p ∙ sym q, refl)
+pub layout-size-one : One 0 layout-size-kinds.ps layout-size-kinds.r layout-size.Post (λ κs s. tt {0})
+layout-size-one κs a x y s t p q = (p ∙ sym q, refl)
 
 -- ---- the inner functions
 pub unpack-one : One 2 unpack-kinds.ps unpack-kinds.r unpack.Post (λ κs s. now (s .1 .1 .1 .0))

@@ -13,10 +13,12 @@ use Rattle.sets.specs.declared.refusal.Refusal.{Refusal}
 use Rattle.sets.specs.Result.{done, _>>_, need}
 use Rattle.digits.specs.Digits.{value, digits, codes, bytes}
 use Rattle.digits.proofs.Numbers.{Below, below-all, length-digits, digits-below, value-lt, value-digits, pow-mul, unpack-pack, pack-unpack-filled, length-bytes}
+use Rattle.digits.proofs.Codes.{below-at}
 use Rattle.packing.specs.declared.layout.Layout.{Layout}
 use Rattle.packing.specs.Layouts.{means, code, allowed, holds, every, size, pack, unpack}
-use Rattle.packing.proofs.Answers.{after-inv, done-inv}
+use Rattle.sets.proofs.Results.{then-inv, done-inv}
 use Rattle.packing.proofs.Kept.{Kept, kept-code, kept-of, code-means}
+pub use Rattle.digits.proofs.Codes.{length-codes, codes-below}
 
 -- ---- a test of every element
 module _ {A : Type 0} (d : A) (ok : A → Bool) (refusal : ℕ → Refusal) where
@@ -36,21 +38,6 @@ module _ {A : Type 0} (d : A) (ok : A → Bool) (refusal : ℕ → Refusal) wher
       by true a e ih zero l = a
       by true a e ih (suc k) l = ih e k (omega arith)
       by false a e ih k l = let z : _≡_ {A = ℕ} 0 1 = cc in absurd (omega arith)
-
--- ---- bytes and codes
-pub below-at : (b : ℕ) (xs : List ℕ) → 0 < b → Below b xs → (k : ℕ) → getD xs k 0 < b
-below-at b [] p h k = p
-below-at b (x ∷ xs) p h zero = h .0
-below-at b (x ∷ xs) p h (suc k) = below-at b xs p (h .1) k
-
-module _ (w n : ℕ) (bs : List ℕ) where
-  pub length-codes : length (codes w n bs) ≡ n
-  unfolding codes
-  length-codes = length-digits (2 ^ w) n (value 256 bs)
-
-  pub codes-below : (k : ℕ) → getD (codes w n bs) k 0 < 2 ^ w
-  unfolding codes
-  codes-below = below-at (2 ^ w) (digits (2 ^ w) n (value 256 bs)) (pow-pos w) (digits-below (2 ^ w) n (value 256 bs) (pow-pos w))
 
 -- ---- lists of values
 -- n values that a layout keeps
@@ -155,13 +142,13 @@ module _ (L : Layout) (n : ℕ) where
       cs = codes (L .bits) n bs
 
       v : zs ≡ map (means L) cs
-      v = sym (done-inv (map (means L) cs) zs (after-inv (every (allowed L) refusal 0 cs) (done (map (means L) cs)) zs e .2))
+      v = sym (done-inv (map (means L) cs) zs (then-inv (every (allowed L) refusal 0 cs) (done (map (means L) cs)) zs e .2))
 
       long : length cs ≡ n
       long = length-codes (L .bits) n bs
 
       good : (k : ℕ) → k < n → allowed L (getD cs k 0) ≡ true
-      good k l = every-inv 0 (allowed L) refusal 0 cs (after-inv (every (allowed L) refusal 0 cs) (done (map (means L) cs)) zs e .1) k (omega (arith, long))
+      good k l = every-inv 0 (allowed L) refusal 0 cs (then-inv (every (allowed L) refusal 0 cs) (done (map (means L) cs)) zs e .1) k (omega (arith, long))
 
       each : (k : ℕ) → k < n → (u : ℕ) × (getD zs k (pos 0) ≡ means L u) × (allowed L u ≡ true)
       each k l = (getD cs k 0, ap (λ (ys : List ℤ). getD ys k (pos 0)) v ∙ getD-means L cs k (omega (arith, long)), good k l)

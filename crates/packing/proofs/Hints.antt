@@ -14,12 +14,12 @@ use Rattle.sets.specs.Result.{done, refused}
 use Rattle.sets.proofs.Outcomes.{stops, gives, above, at-most}
 use Rattle.residues.proofs.Remainders.{residue-small}
 use Rattle.digits.specs.Digits.{codes}
+use Rattle.digits.proofs.Codes.{codes-below}
 use Rattle.packing.specs.declared.unpack.Unpacked.{Unpacked}
 use Rattle.packing.specs.declared.unpack.Unpacked.the-variants.{All}
 use Rattle.packing.specs.Layouts.{hintLayout, code, unpack}
 use Rattle.packing.specs.Parts.{ones, anyHint, readHints}
 use Rattle.packing.specs.Engine.{remainders}
-use Rattle.packing.proofs.Elements.{codes-below}
 use Rattle.packing.proofs.Reading.{some-q}
 use Rattle.packing.proofs.Packs.{Coding, codes-are, Decoding, read-remainders, read-means}
 

@@ -16,7 +16,7 @@ use Rattle.packing.specs.declared.layout.Layout.{Layout}
 use Rattle.packing.specs.Layouts.{hintLayout, holds, every, size, pack, unpack}
 use Rattle.packing.specs.Parts.{ones, anyHint, readHints}
 use Rattle.packing.specs.Calls.{packCall, unpackCall, packHintsCall, unpackHintsCall}
-use Rattle.packing.proofs.Answers.{need-inv, after-inv, done-inv}
+use Rattle.sets.proofs.Results.{need-inv, then-inv, done-inv}
 use Rattle.packing.proofs.Kept.{holds-of}
 use Rattle.packing.proofs.Elements.{every-done, every-inv, Element, element-of, ZeroFill, length-pack, unpack-element, was-read, pack-unpacked}
 use Rattle.packing.proofs.Calling.{pack-done, unpack-goes, pack-hints-done, unpack-hints-goes}
@@ -38,7 +38,7 @@ module _ (L : Layout) (n : ℕ) where
   unpack-of-pack f refusal refusal′ zs room out bs e l =
       let a = need-inv (eqb (length zs) n) (Length Coefficients) _ bs e in
       let b = need-inv (eqb (length out) (size L n)) (Length Packed) _ bs (a .1) in
-      let c = after-inv (every (holds L) refusal 0 zs) (done (pack L n zs)) bs (b .1) in
+      let c = then-inv (every (holds L) refusal 0 zs) (done (pack L n zs)) bs (b .1) in
       let p : pack L n zs ≡ bs = done-inv (pack L n zs) bs (c .2) in
       let E = held refusal zs f (eqb-true _ _ (a .0)) (c .0) (c .1) in
       unpack-goes L refusal′ n bs room (ap length (sym p) ∙ length-pack L n zs) l ∙
@@ -62,7 +62,7 @@ module _ (p : Set) where
   unpack-of-pack-hints zs room out bs e l =
       let a = need-inv (eqb (length zs) (p .n)) (Length Coefficients) _ bs e in
       let b = need-inv (eqb (length out) (size hintLayout (p .n))) (Length Packed) _ bs (a .1) in
-      let c = after-inv (every (holds hintLayout) anyHint 0 zs) _ bs (b .1) in
+      let c = then-inv (every (holds hintLayout) anyHint 0 zs) _ bs (b .1) in
       let d = need-inv (leb (ones zs) (p .omega)) Hint (done (pack hintLayout (p .n) zs)) bs (c .2) in
       let q : pack hintLayout (p .n) zs ≡ bs = done-inv (pack hintLayout (p .n) zs) bs (d .1) in
       let E = held hintLayout (p .n) anyHint zs (omega arith) (eqb-true _ _ (a .0)) (c .0) (c .1) in

@@ -8,7 +8,7 @@ use lib.Seq.{take-at, drop-at, length-take-le}
 use Rattle.digits.proofs.Numbers.{Below, below-all}
 use Rattle.digits.proofs.Windows.{below-drop}
 use Rattle.packing.specs.Parts.{cut, join, total, part}
-use Rattle.packing.proofs.Elements.{below-at}
+use Rattle.digits.proofs.Codes.{below-at}
 
 abbrev pub Sizes : List ℕ → List (List ℕ) → Type 0
 Sizes [] [] = Unit {0}

@@ -1,5 +1,4 @@
 -- Packing and unpacking are inverse on allowed values; the laws that the code's proofs cite; each contract permits one outcome.
-pub mod Answers
 pub mod Kept
 pub mod Elements
 pub mod Joins

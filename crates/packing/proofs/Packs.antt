@@ -14,13 +14,14 @@ use Rattle.sets.specs.declared.refusal.Report.{Report}
 use Rattle.sets.specs.Result.{done, refused, outcome}
 use Rattle.residues.specs.Remainder.{signed}
 use Rattle.digits.specs.Digits.{codes, bytes, byteCount}
+use Rattle.digits.proofs.Codes.{below-at, length-codes}
 use Rattle.packing.specs.declared.layout.Layout.{Layout}
 use Rattle.packing.specs.declared.unpack.Unpacked.{Unpacked}
 use Rattle.packing.specs.declared.unpack.Unpacked.the-variants.{All, BadAt}
 use Rattle.packing.specs.Layouts.{means, code, allowed, holds, every, size, pack, unpack}
 use Rattle.packing.specs.Calls.{packCall, unpackCall}
 use Rattle.packing.specs.Engine.{Readable, scan, takenTo, unpackedTo, remainder, remainders}
-use Rattle.packing.proofs.Elements.{every-inv, below-at, length-codes, Element, element-of, below-kept}
+use Rattle.packing.proofs.Elements.{every-inv, Element, element-of, below-kept}
 use Rattle.packing.proofs.Scans.{every-all, every-bad, all-taken, bad-found}
 use Rattle.packing.proofs.Reading.{signed-remainders, remainders-below, unpack-all, unpack-bad}
 

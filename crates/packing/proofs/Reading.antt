@@ -14,21 +14,16 @@ use Rattle.residues.specs.Remainder.{residue, signed, centred}
 use Rattle.residues.proofs.Differences.{pos-sub, sub-ge, sub-lt, abs-sub}
 use Rattle.residues.proofs.Remainders.{residue-lt, residue-small}
 use Rattle.residues.proofs.Centres.{centred-small}
-use Rattle.digits.specs.Digits.{value, codes}
-use Rattle.digits.proofs.Numbers.{getD-digits, pow-mul}
+use Rattle.digits.specs.Digits.{codes}
 use Rattle.packing.specs.declared.layout.Layout.{Layout}
 use Rattle.packing.specs.declared.unpack.Code.{Code}
 use Rattle.packing.specs.declared.unpack.Code.the-variants.{Good, Bad}
 use Rattle.packing.specs.declared.unpack.Unpacked.the-variants.{All, BadAt}
 use Rattle.packing.specs.Layouts.{means, allowed, unpack}
 use Rattle.packing.specs.Engine.{Readable, taken, scan, remainder, remainders}
-use Rattle.packing.proofs.Answers.{after-done, after-refused}
+use Rattle.sets.proofs.Results.{then-done, then-refused}
 use Rattle.packing.proofs.Kept.{allowed-ends}
 use Rattle.packing.proofs.Scans.{every-all, every-bad}
-
-pub codes-at : (w n : ℕ) (bs : List ℕ) (i : ℕ) → i < n → value 256 bs / 2 ^ (w * i) % 2 ^ w ≡ getD (codes w n bs) i 0
-unfolding codes
-codes-at w n bs i h = sym (getD-digits (2 ^ w) n (value 256 bs) i h ∙ ap (λ (y : ℕ). value 256 bs / y % 2 ^ w) (pow-mul 2 w i))
 
 -- ---- base - v, by its sign
 pub below-not : (q base v : ℕ) → base < q → v ≤ base → base - v ≡ residue q (pos base -ℤ pos v)
@@ -108,8 +103,8 @@ module _ (L : Layout) (q : ℕ) (R : Readable L q) (v : ℕ) where
 module _ (L : Layout) (refusal : ℕ → Refusal) (n : ℕ) (bs : List ℕ) where
   pub unpack-all : scan (allowed L) 0 (codes (L .bits) n bs) ≡ All → unpack L refusal n bs ≡ done (map (means L) (codes (L .bits) n bs))
   unfolding unpack
-  unpack-all e = after-done _ tt _ (every-all (allowed L) refusal 0 (codes (L .bits) n bs) e)
+  unpack-all e = then-done _ tt _ (every-all (allowed L) refusal 0 (codes (L .bits) n bs) e)
 
   pub unpack-bad : (i : ℕ) → scan (allowed L) 0 (codes (L .bits) n bs) ≡ BadAt i → unpack L refusal n bs ≡ refused (refusal i)
   unfolding unpack
-  unpack-bad i e = after-refused _ (refusal i) _ (every-bad (allowed L) refusal 0 (codes (L .bits) n bs) i e)
+  unpack-bad i e = then-refused _ (refusal i) _ (every-bad (allowed L) refusal 0 (codes (L .bits) n bs) i e)

@@ -14,7 +14,7 @@ use Rattle.sets.specs.Result.{done, _>>=_, _>>_, need}
 use Rattle.packing.specs.Layouts.{t1Layout, t0Layout, sLayout, zLayout, hintLayout, pack, unpack}
 use Rattle.packing.specs.Parts.{cut, total, part, publicParts, secretParts, signatureParts, ones, anyHint}
 use Rattle.packing.specs.Parts.{PublicKey, SecretKey, Signature, packPublic, packSecret, packSignature, readPublic, readSecret, readHints, readSignature}
-use Rattle.packing.proofs.Answers.{bind-inv, need-inv, done-inv}
+use Rattle.sets.proofs.Results.{bind-inv, need-inv, done-inv}
 use Rattle.packing.proofs.Elements.{Element, Allowed, element-of, ZeroFill, Full, length-pack, unpack-element, was-read, pack-unpacked, no-fill}
 use Rattle.packing.proofs.Room.{t1-readable, t0-readable, s-readable, z-readable, hint-readable}
 use Rattle.packing.proofs.Joins.{cut-join, join-cut, sizes-cut, part-bytes}

@@ -5,3 +5,4 @@ pub mod Differences
 pub mod Remainders
 pub mod Centres
 pub mod Machine
+pub mod Determined

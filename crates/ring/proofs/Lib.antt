@@ -20,3 +20,4 @@ pub mod Engine
 pub mod Signed
 pub mod Calling
 pub mod First
+pub mod Determined

@@ -10,3 +10,4 @@ pub mod Signed
 pub mod Norms
 pub mod Halves
 pub mod Recovers
+pub mod Determined

@@ -13,13 +13,14 @@ use lib.IntN.{ℤ, pos, negsuc, _-ℤ_}
 use lib.ListN.{length, getD, take, drop, replicate, length-append, length-drop, List·getD-append, List·getD-eq-default}
 use lib.Seq.{ext-getD, take-append-le, drop-append-le}
 use Rattle.digits.specs.Digits.{value, digits, codes}
+use Rattle.digits.proofs.Codes.{length-codes}
 use Rattle.residues.proofs.Order.{below-or}
 use Rattle.sets.specs.Set.{Set, tri1}
 use Rattle.sets.specs.Good.{Good}
 use Rattle.sampling.specs.Samplers.{Drawn, drew, dry, groups, first, placed, sampleA, sampleS, challenge}
 use Rattle.sampling.specs.Engine.{sDraws, isS, meansS}
 use Rattle.sampling.proofs.Bounds.{some-bytes}
-use Rattle.sampling.proofs.Groups.{length-codes, group-at, groups-none, fields-none}
+use Rattle.sampling.proofs.Groups.{group-at, groups-none, fields-none}
 
 -- "There an empty stream is dry"
 first-none : (ok : ℕ → Bool) (means : ℕ → ℤ) (n : ℕ) → 0 < n → first ok means [] n ≡ dry

@@ -8,17 +8,10 @@ use native.Mathlib.Omega.{arith}
 use lib.ListN.{length, getD, take, drop, length-drop}
 use lib.Seq.{getD-drop}
 use Rattle.digits.specs.Digits.{value, digits, codes}
-use Rattle.digits.proofs.Numbers.{Below, below-all, length-digits, getD-digits, pow-mul}
+use Rattle.digits.proofs.Numbers.{Below, below-all, pow-mul}
+use Rattle.digits.proofs.Codes.{codes-at}
 use Rattle.digits.proofs.Windows.{value-drop, value-take, below-drop}
 use Rattle.sampling.specs.Samplers.{groups}
-
-pub length-codes : (w n : ℕ) (bs : List ℕ) → length (codes w n bs) ≡ n
-unfolding codes
-length-codes w n bs = length-digits (2 ^ w) n (value 256 bs)
-
-pub codes-at : (w n : ℕ) (bs : List ℕ) (k : ℕ) → k < n → getD (codes w n bs) k 0 ≡ value 256 bs / 2 ^ (w * k) % 2 ^ w
-unfolding codes
-codes-at w n bs k l = getD-digits (2 ^ w) n (value 256 bs) k l ∙ ap (λ (e : ℕ). value 256 bs / e % 2 ^ w) (pow-mul 2 w k)
 
 digits-append : (b n m x : ℕ) → digits b (n + m) x ≡ digits b n x ++ digits b m (x / b ^ n)
 unfolding digits

@@ -12,11 +12,11 @@ use lib.IntN.{ℤ, pos, negsuc, negℤ, _-ℤ_}
 use lib.Signed.{leZ, leZ-yes, _≤ℤ_}
 use Rattle.sets.specs.Set.{Set}
 use Rattle.digits.specs.Digits.{codes, twoBytes}
+use Rattle.digits.proofs.Codes.{length-codes, codes-at}
 use Rattle.packing.specs.Layouts.{yLayout, means, size}
 use Rattle.residues.proofs.Order.{below-or}
 use Rattle.residues.proofs.Differences.{pos-sub, sub-lt, sub-ge}
 use Rattle.sampling.specs.Streams.{Hash, expandY}
-use Rattle.sampling.proofs.Groups.{length-codes, codes-at}
 use Rattle.sampling.proofs.Drawing.{Each}
 
 -- within a list it does not matter what stands past its end

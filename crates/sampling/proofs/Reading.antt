@@ -2,13 +2,12 @@
 use mathlib.Core.Path.{_≡_, sym, ap, _∙_}
 use mathlib.Core.List.{List}
 use Prim.Native.Nat.{ℕ, _+_, _-_, _*_, _%_, _^_, _≤_, _<_}
-use native.Mathlib.Nat.{mod-eq-of-lt}
 use native.Mathlib.Omega.{arith}
-use lib.Pow.{pow-mono, mod-mod-pow, mod-pow-add}
+use lib.Pow.{mod-mod-pow, mod-pow-add}
 use lib.ListN.{getD, take, drop}
 use Rattle.digits.specs.Digits.{value}
 use Rattle.digits.proofs.Numbers.{Below, below-all}
-use Rattle.digits.proofs.Windows.{value-take, value-drop, below-drop, four-bytes}
+use Rattle.digits.proofs.Windows.{value-take, value-drop, below-drop, four-bytes, one-shifted-in}
 
 -- the low bits of g bytes are those of four
 pub group-in-window : (bs : List ℕ) (w g : ℕ) → ((k : ℕ) → getD bs k 0 < 256) → w ≤ 8 * g → g ≤ 4 → value 256 (take 4 bs) % 2 ^ w ≡ value 256 (take g bs) % 2 ^ w
@@ -21,9 +20,7 @@ group-in-window bs w g small l m = low 4 (omega arith) ∙ sym (low g l)
 
 -- 1 << w, of a 64-bit word
 pub one-shifted : (w : ℕ) → w ≤ 32 → 1 * 2 ^ w % 18446744073709551616 ≡ 2 ^ w
-one-shifted w l =
-    let m : 2 ^ w ≤ 2 ^ 32 = pow-mono l in
-    ap (λ (x : ℕ). x % 18446744073709551616) {x = 1 * 2 ^ w} {y = 2 ^ w} (omega arith) ∙ mod-eq-of-lt (omega arith)
+one-shifted w l = one-shifted-in 18446744073709551616 32 w (omega arith) l
 
 module _ (bs : List ℕ) (small : (k : ℕ) → getD bs k 0 < 256) where
   below : Below 256 bs

@@ -7,10 +7,10 @@ use native.Mathlib.Omega.{arith}
 use lib.ListN.{length, drop, drop-of-length-le}
 use lib.Seq.{drop-cons}
 use Rattle.digits.specs.Digits.{value, codes}
+use Rattle.digits.proofs.Codes.{length-codes, codes-at}
 use Rattle.outcome.specs.Outcome.{Is}
 use Rattle.sets.specs.Set.{Set}
 use Rattle.sampling.specs.Engine.{kept, filled, isS, meansS}
-use Rattle.sampling.proofs.Groups.{length-codes, codes-at}
 use Rattle.sampling.proofs.Filling.{filled-one, filled-full, filled-nil}
 
 module _ (p : Set) (bs : List ℕ) (count : ℕ) (old : List ℕ) (first : ℕ) where

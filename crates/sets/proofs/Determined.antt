@@ -8,8 +8,8 @@ use Rattle.sets.proofs.refusal.Answer.report.Kinds as answer-kinds
 use Rattle.sets.proofs.refusal.Signing.report.Reads as signing
 use Rattle.sets.proofs.refusal.Signing.report.Kinds as signing-kinds
 
-pub numbers-one : One 0 numbers-kinds.ps numbers-kinds.r numbers.Post (λ κs s. tt {0})
-numbers-one κs a x y s t p q = (p ∙ sym q, refl)
+pub trinomial1-numbers-one : One 0 numbers-kinds.ps numbers-kinds.r numbers.Post (λ κs s. tt {0})
+trinomial1-numbers-one κs a x y s t p q = (p ∙ sym q, refl)
 
 pub answer-report-one : One 0 answer-kinds.ps answer-kinds.r answer.Post (λ κs s. tt {0})
 answer-report-one κs a x y s t p q = (p ∙ sym q, refl)

@@ -13,6 +13,13 @@ bind-done f e k = ap (λ x. x >>= f) e ∙ k
 pub need-done : {A : Type 0} {r : Result A} (b : Bool) (n : Refusal) (m : Result A) → b ≡ true → m ≡ r → (need b n >> m) ≡ r
 need-done b n m e k = ap (λ x. need x n >> m) e ∙ k
 
+-- a step whose value is not used
+pub then-done : {A B : Type 0} (m : Result A) (a : A) (k : Result B) → m ≡ done a → (m >> k) ≡ k
+then-done m a k e = ap (λ x. x >> k) e
+
+pub then-refused : {A B : Type 0} (m : Result A) (n : Refusal) (k : Result B) → m ≡ refused n → (m >> k) ≡ refused n
+then-refused m n k e = ap (λ x. x >> k) e
+
 -- back: a value at the end came from a value at each step
 pub bind-inv : {A B : Type 0} (m : Result A) (f : A → Result B) (b : B) → (m >>= f) ≡ done b → (a : A) × (m ≡ done a) × (f a ≡ done b)
 bind-inv (done a) f b e = (a, refl, e)
@@ -35,9 +42,5 @@ pub not-done : {A : Type 0} (r : Refusal) (a : A) → refused r ≡ done a → �
 not-done r a e = let z : _≡_ {A = ℕ} 0 1 = cc in omega arith
 
 -- what was done is one value
-pub done-one : {A : Type 0} (d a b : A) → done a ≡ done b → a ≡ b
-done-one {A = A} d a b e = ap of e
-  where
-    of : Result A → A
-    of (done x) = x
-    of (refused r) = d
+pub done-inv : {A : Type 0} (a b : A) → done a ≡ done b → a ≡ b
+done-inv a b e = cc

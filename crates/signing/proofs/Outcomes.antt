@@ -131,11 +131,14 @@ module _ (p : Set) (T : Trinomial p) (S : Signer) (limit κ : ℕ) (work c~ : Li
       (((i : ℕ) → i < p .n → holds (zLayout p) (signed (p .q) (getD (slot (p .n) 7 work) i 0)) ≡ true) ×
       ((i : ℕ) → i < p .n → holds hintLayout (signed (p .q) (getD (slot (p .n) 10 work) i 0)) ≡ true))
   asks-write r =
-      let R = ready-of p S T κ (F .c) 11 r (F .held) in
-      (R,
-      (holds-values (zLayout p) 7 (response (trinomial p) S (yOf p S κ) (F .c)) (R .each 7 (omega arith) .long) z-values z-kept,
-      holds-values hintLayout 10 (hints (trinomial p) S (wOf p S κ) (F .c)) (R .each 10 (omega arith) .long) h-values
-      (λ i l. subst (Kept hintLayout) (sym (hint-at i l)) (kept-hint p (T .good) (at (negated (trinomial p) ct0) i) (at (plus (trinomial p) (masked (trinomial p) S (wOf p S κ) (F .c)) ct0) i)))))
+      let R = ready-of p S T κ (F .c) 11 r (F .held) in (
+        R,
+        (
+          holds-values (zLayout p) 7 (response (trinomial p) S (yOf p S κ) (F .c)) (R .each 7 (omega arith) .long) z-values z-kept,
+          holds-values hintLayout 10 (hints (trinomial p) S (wOf p S κ) (F .c)) (R .each 10 (omega arith) .long) h-values
+              (λ i l. subst (Kept hintLayout) (sym (hint-at i l)) (kept-hint p (T .good) (at (negated (trinomial p) ct0) i) (at (plus (trinomial p) (masked (trinomial p) S (wOf p S κ) (F .c)) ct0) i))),
+        ),
+      )
 
   pub is-signature : (out : List ℕ)
       → out ≡ join (c~ ∷ pack (zLayout p) (p .n) (map (signed (p .q)) (slot (p .n) 7 work)) ∷ pack hintLayout (p .n) (map (signed (p .q)) (slot (p .n) 10 work)) ∷ [])

@@ -46,14 +46,16 @@ module _ (p : Set) where
 
   -- no part is long
   pub signature-room : Trinomial p → (size (zLayout p) (p .n) ≤ 10241) × (size hintLayout (p .n) ≤ 10241)
-  signature-room T =
-      (sized p T (zLayout p) (zLayout p) refl (z-readable p (T .good)) (size (zLayout p) (p .n)) refl .1,
-      sized p T hintLayout hintLayout refl (hint-readable p (T .good)) (size hintLayout (p .n)) refl .1)
+  signature-room T = (
+    sized p T (zLayout p) (zLayout p) refl (z-readable p (T .good)) (size (zLayout p) (p .n)) refl .1,
+    sized p T hintLayout hintLayout refl (hint-readable p (T .good)) (size hintLayout (p .n)) refl .1,
+  )
 
   pub secret-room : Trinomial p → (size (sLayout p) (p .n) ≤ 10241) × (size (t0Layout p) (p .n) ≤ 10241)
-  secret-room T =
-      (sized p T (sLayout p) (sLayout p) refl (s-readable p (T .good)) (size (sLayout p) (p .n)) refl .1,
-      sized p T (t0Layout p) (t0Layout p) refl (t0-readable p (T .good)) (size (t0Layout p) (p .n)) refl .1)
+  secret-room T = (
+    sized p T (sLayout p) (sLayout p) refl (s-readable p (T .good)) (size (sLayout p) (p .n)) refl .1,
+    sized p T (t0Layout p) (t0Layout p) refl (t0-readable p (T .good)) (size (t0Layout p) (p .n)) refl .1,
+  )
 
   -- three parts written one after the other
   pub signature-written : (Z H : Layout) (at : ℕ) (c~ out o₁ o₂ o₃ : List ℕ) (zs hs : List ℤ) → length c~ ≡ 32 → length out ≡ total (signatureParts p)
@@ -65,7 +67,16 @@ module _ (p : Set) where
       let lz = length-pack (zLayout p) (p .n) zs in
       let lh = length-pack hintLayout (p .n) hs in
       puts-join (c~ ∷ pack (zLayout p) (p .n) zs ∷ pack hintLayout (p .n) hs ∷ []) out o₃
-      (s ∙ sym (length-join (signatureParts p) (c~ ∷ pack (zLayout p) (p .n) zs ∷ pack hintLayout (p .n) hs ∷ []) (l, (lz, (lh, tt)))))
-      (0, refl, o₁, e₁,
-      (32, omega arith, o₂, e₂ ∙ ap (λ (x : Layout). put 32 (pack x (p .n) zs) o₁) eZ,
-      (at, omega arith, o₃, e₃ ∙ ap (λ (x : Layout). put at (pack x (p .n) hs) o₂) eH, refl)))
+      (s ∙ sym (length-join (signatureParts p) (c~ ∷ pack (zLayout p) (p .n) zs ∷ pack hintLayout (p .n) hs ∷ []) (l, (lz, (lh, tt))))) (
+        0,
+        refl,
+        o₁,
+        e₁,
+        (
+          32,
+          omega arith,
+          o₂,
+          e₂ ∙ ap (λ (x : Layout). put 32 (pack x (p .n) zs) o₁) eZ,
+          (at, omega arith, o₃, e₃ ∙ ap (λ (x : Layout). put at (pack x (p .n) hs) o₂) eH, refl),
+        ),
+      )

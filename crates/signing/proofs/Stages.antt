@@ -156,10 +156,11 @@ pub asks-w1 : (p : Set) → Trinomial p → (L : Layout) → L ≡ w1Layout p �
     → Wrote (p .n) k (highsOf p (slot (p .n) i work)) work more
     → Residues p (slot (p .n) k more) × ((t : ℕ) → t < p .n → holds L (signed (p .q) (getD (slot (p .n) k more) t 0)) ≡ true)
 asks-w1 p T L e i k work {more} r w =
-    let H = holds-highs p T (stands-plain p T r) w in
-    (residues-of p T H,
-    packed-holds p T L H (highs-small p T (map pos (slot (p .n) i work)))
-    (λ t l. subst (λ (x : Layout). Kept x (at (highs (trinomial p) (map pos (slot (p .n) i work))) t)) (sym e) (highs-kept p T (map pos (slot (p .n) i work)) t l)))
+    let H = holds-highs p T (stands-plain p T r) w in (
+      residues-of p T H,
+      packed-holds p T L H (highs-small p T (map pos (slot (p .n) i work)))
+          (λ t l. subst (λ (x : Layout). Kept x (at (highs (trinomial p) (map pos (slot (p .n) i work))) t)) (sym e) (highs-kept p T (map pos (slot (p .n) i work)) t l)),
+    )
 
 -- and the commitment of what an element stands for
 pub commit-is : (p : Set) → Trinomial p → (μ : List ℕ) {k : ℕ} {w : List ℤ} {work : List ℕ} → Holds p k w work

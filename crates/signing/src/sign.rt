@@ -29,10 +29,15 @@ ghost use Rattle.signing.specs.Stages.{Ready};
 ghost use Rattle.signing.specs.Calls.{KeyRead, signedFrom};
 
 const A: usize = 0;
+
 const S1: usize = 1;
+
 const S2: usize = 2;
+
 const T0: usize = 3;
+
 const Z: usize = 7;
+
 const HINTS: usize = 10;
 
 // The sizes of a secret key and of a signature.
@@ -90,7 +95,16 @@ fn write_signature(p: Numbers, commitment: &[u8], work: &[u32], out: &mut [u8])
 }
 
 // The key is read and the tries made, with μ and ρ given.
-fn sign_from(p: Numbers, key: &[u8], mu: &[u8], rho: &[u8], limit: u32, signature: &mut [u8], work: &mut [u32], commitment: &mut [u8]) -> Signing
+fn sign_from(
+    p: Numbers,
+    key: &[u8],
+    mu: &[u8],
+    rho: &[u8],
+    limit: u32,
+    signature: &mut [u8],
+    work: &mut [u32],
+    commitment: &mut [u8],
+) -> Signing
     requires { ⌜ Trinomial p × (11 * p .n ≤ length (now work)) ⌝ }
     requires { ⌜ (length (now key) ≡ total (secretParts p)) × (length (now signature) ≡ total (signatureParts p)) × (limit ≤ 1000) × (length (now commitment) ≡ 32) ⌝ }
     ensures { λ r. ⌜ ((M : List ℕ) → now (mu .entry) ≡ muOf (trinomial p) shake256 (now (key .entry)) M → Is (signOutcome limit (signedFrom p (now (key .entry)) M (now (rho .entry)) limit) (now (signature .entry))) (signingReport r) (now (signature .exit))) ⌝ }
@@ -110,7 +124,17 @@ fn sign_from(p: Numbers, key: &[u8], mu: &[u8], rho: &[u8], limit: u32, signatur
 }
 
 // "μ = H(ph then M, 64); ρ = H(K then μ, 64)", in lent memory. The message is read where it lies.
-fn sign_in(p: Numbers, key: &[u8], message: &[u8], limit: u32, signature: &mut [u8], work: &mut [u32], mu: &mut [u8], rho: &mut [u8], commitment: &mut [u8]) -> Signing
+fn sign_in(
+    p: Numbers,
+    key: &[u8],
+    message: &[u8],
+    limit: u32,
+    signature: &mut [u8],
+    work: &mut [u32],
+    mu: &mut [u8],
+    rho: &mut [u8],
+    commitment: &mut [u8],
+) -> Signing
     requires { ⌜ Trinomial p × (11 * p .n ≤ length (now work)) ⌝ }
     requires { ⌜ (length (now key) ≡ total (secretParts p)) × (length (now signature) ≡ total (signatureParts p)) × (limit ≤ 1000) × (length (now commitment) ≡ 32) ⌝ }
     requires { ⌜ (length (now mu) ≡ 64) × (length (now rho) ≡ 64) ⌝ }
@@ -122,7 +146,14 @@ fn sign_in(p: Numbers, key: &[u8], message: &[u8], limit: u32, signature: &mut [
 }
 
 // "Order of checks: by number, 8 and 9 last."
-pub fn sign(p: Numbers, key: &[u8], message: &[u8], limit: u32, signature: &mut [u8], work: &mut [u32]) -> Signing
+pub fn sign(
+    p: Numbers,
+    key: &[u8],
+    message: &[u8],
+    limit: u32,
+    signature: &mut [u8],
+    work: &mut [u32],
+) -> Signing
     requires { ⌜ Trinomial p ⌝ }
     requires { ⌜ 11 * p .n ≤ length (now work) ⌝ }
     ensures { λ r. ⌜ Is (signOutcome limit (sign (trinomial p) shake256 (now (key .entry)) (now (message .entry)) limit (now (signature .entry))) (now (signature .entry))) (signingReport r) (now (signature .exit)) ⌝ }
@@ -145,5 +176,15 @@ pub fn sign(p: Numbers, key: &[u8], message: &[u8], limit: u32, signature: &mut 
     let mut mu = [0u8; 64];
     let mut rho = [0u8; 64];
     let mut commitment = [0u8; 32];
-    sign_in(p, key, message, limit, signature, work, &mut mu, &mut rho, &mut commitment)
+    sign_in(
+        p,
+        key,
+        message,
+        limit,
+        signature,
+        work,
+        &mut mu,
+        &mut rho,
+        &mut commitment,
+    )
 }

@@ -22,15 +22,25 @@ ghost use Rattle.scheme.specs.Try.{Signer};
 ghost use Rattle.signing.specs.Stages.{Ready, signerIn, Upto, commitmentOf, Found};
 
 const A: usize = 0;
+
 const S1: usize = 1;
+
 const S2: usize = 2;
+
 const T0: usize = 3;
+
 const Y: usize = 4;
+
 const W: usize = 5;
+
 const C: usize = 6;
+
 const Z: usize = 7;
+
 const REST: usize = 8;
+
 const CT0: usize = 9;
+
 const HINTS: usize = 10;
 
 // The first try that passed, or none did.
@@ -103,7 +113,14 @@ fn hint_ones(p: Numbers, work: &[u32]) -> usize
 }
 
 // The tries from κ = 0 on: "A try fails for the first reason that holds", and the first that passes is the answer; no later one is looked at.
-pub(crate) fn first_passing(p: Numbers, mu: &[u8], rho: &[u8], limit: u32, work: &mut [u32], commitment: &mut [u8]) -> Tried
+pub(crate) fn first_passing(
+    p: Numbers,
+    mu: &[u8],
+    rho: &[u8],
+    limit: u32,
+    work: &mut [u32],
+    commitment: &mut [u8],
+) -> Tried
     requires { ⌜ Trinomial p × Ready p 4 (now work) ⌝ }
     requires { ⌜ (limit ≤ 1000) × (length (now commitment) ≡ 32) ⌝ }
     ensures { λ r. ⌜ Found p (signerIn p (now (work .entry)) (now (mu .entry)) (now (rho .entry))) limit r (now (work .exit)) (now (commitment .exit)) ⌝ }

@@ -2,3 +2,4 @@
 pub mod Memory
 pub mod Writing
 pub mod Scaling
+pub mod Determined

@@ -3,11 +3,10 @@ use Prim.Native.Nat.{_-_, _≤_}
 use native.Mathlib.Omega.{arith}
 use lib.ListN.{length}
 use Rattle.digits.specs.Digits.{codes}
+use Rattle.digits.proofs.Codes.{length-codes, codes-at}
 use Rattle.packing.specs.Layouts.{allowed}
 use Rattle.packing.specs.Engine.{Readable, remainder}
-use Rattle.packing.proofs.Elements.{length-codes}
 use Rattle.packing.proofs.Scans.{Walked, walked-none, walked-more, walked-stop, walked-all}
-use Rattle.packing.proofs.Reading.{codes-at}
 use borrow.Author.Needs.{needs}
 use Rattle.packing.proofs.unpack.unpack.Statement.{statement}
 use Rattle.packing.proofs.unpack.unpack.Tie as tie
@@ -38,7 +37,7 @@ same-length : tie.Need-same-length Inv-loop μ-loop
 same-length c = search needs
 
 returns : tie.Need-returns Inv-loop μ-loop
-returns c = walked-stop 0 _ _ _ _ _ _ (c .before .before .before .before .before .loop .inv .2) (omega arith) _ _ (c .before .before .value-of .ensures) (c .enum-told .given .1) (c .before .before .before .code-at .ensures ∙ codes-at _ _ _ _ (omega arith))
+returns c = walked-stop 0 _ _ _ _ _ _ (c .before .before .before .before .before .loop .inv .2) (omega arith) _ _ (c .before .before .value-of .ensures) (c .enum-told .given .1) (c .before .before .before .code-at .ensures ∙ sym (codes-at _ _ _ _ (omega arith)))
 
 mul-out : tie.Need-mul-out Inv-loop μ-loop
 mul-out c = search needs
@@ -53,7 +52,7 @@ loop-less : tie.Need-loop-less Inv-loop μ-loop
 loop-less c = search needs
 
 loop-again : tie.Need-loop-again Inv-loop μ-loop
-loop-again c = (c .before .before .before .before .before .before .loop .inv .0, c .before .before .before .before .before .before .loop .inv .1, walked-more 0 _ _ _ _ _ _ (c .before .before .before .before .before .before .loop .inv .2) (omega arith) _ _ _ (c .before .before .before .value-of .ensures) (c .before .x .given .1) (c .before .before .before .before .code-at .ensures ∙ codes-at _ _ _ _ (omega arith)))
+loop-again c = (c .before .before .before .before .before .before .loop .inv .0, c .before .before .before .before .before .before .loop .inv .1, walked-more 0 _ _ _ _ _ _ (c .before .before .before .before .before .before .loop .inv .2) (omega arith) _ _ _ (c .before .before .before .value-of .ensures) (c .before .x .given .1) (c .before .before .before .before .code-at .ensures ∙ sym (codes-at _ _ _ _ (omega arith))))
 
 same-length-2 : tie.Need-same-length-2 Inv-loop μ-loop
 same-length-2 c = search needs
