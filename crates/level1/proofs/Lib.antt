@@ -1,2 +1,3 @@
 pub mod Determined
 pub mod Demand3
+pub mod Carried

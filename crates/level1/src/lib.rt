@@ -20,7 +20,14 @@ pub fn make_keys(zeta: &[u8], prime: &[u8], public: &mut [u8], secret: &mut [u8]
     ensures { λ r. ⌜ Is (outcome (makeKeys set1 shake256 (now (zeta .entry)) (now (prime .entry)) (now (public .entry)) (now (secret .entry))) record { public = now (public .entry); secret = now (secret .entry) }) (reportOf r) record { public = now (public .exit); secret = now (secret .exit) } ⌝ }
 {
     let mut work = [0u32; WORK];
-    keys::make_keys(Trinomial1::numbers(), zeta, prime, public, secret, &mut work)
+    keys::make_keys(
+        Trinomial1::numbers(),
+        zeta,
+        prime,
+        public,
+        secret,
+        &mut work,
+    )
 }
 
 // Signs a message of at most 32,768 bytes with at most `limit` tries, 1 to 1,000. The answer carries the count of tries.
