@@ -1,3 +1,4 @@
 -- The laws of elements and bytes.
 pub mod Codes
 pub mod Expanding
+pub mod Determined

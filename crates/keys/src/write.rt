@@ -14,7 +14,7 @@ ghost use Rattle.memory.specs.Put.{put};
 ghost use Rattle.keys.specs.Steps.{Ready, values};
 
 // "Public key: ζ, t1 (32 + 1728)."
-pub fn public_size(p: Numbers) -> usize
+pub(crate) fn public_size(p: Numbers) -> usize
     requires { ⌜ Good p ⌝ }
     ensures { λ r. ⌜ r ≡ total (publicParts p) ⌝ }
 {
@@ -30,7 +30,7 @@ fn s_size(p: Numbers) -> usize
 }
 
 // "Secret key: ζ, ph, K, s1, s2, t0 (96 + 288 + 288 + 1728)."
-pub fn secret_size(p: Numbers) -> usize
+pub(crate) fn secret_size(p: Numbers) -> usize
     requires { ⌜ Good p ⌝ }
     ensures { λ r. ⌜ r ≡ total (secretParts p) ⌝ }
 {
@@ -76,7 +76,7 @@ fn secret(p: Numbers, zeta: &[u8], ph: &[u8], k: &[u8], work: &[u32], out: &mut 
 }
 
 // Both keys: "ph = H(ζ then packed t1, 32)" (line 7) is the hash of the public key.
-pub fn both(
+pub(crate) fn both(
     p: Numbers,
     zeta: &[u8],
     k: &[u8],

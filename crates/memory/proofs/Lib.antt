@@ -2,3 +2,4 @@ pub mod Filling
 pub mod Placing
 pub mod Bridges
 pub mod Holding
+pub mod Determined
