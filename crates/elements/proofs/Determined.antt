@@ -1,14 +1,13 @@
 -- Each public contract of this crate permits one outcome. After a dry stream the element is scratch, and so the three theorems on streams that can be
 -- dry say that the answer is one; where all was drawn the element is the definition's.
-use mathlib.Core.Path.{_≡_, refl, sym, ap, _∙_}
+use mathlib.Core.Path.{_≡_, refl, sym, _∙_}
 use mathlib.Core.List.{List}
 use Prim.Native.Nat.{ℕ}
-use native.Mathlib.Omega.{arith}
 use lib.IntN.{ℤ}
 use denote.Ref.{now}
 use Rattle.outcome.proofs.One.{One}
 use Rattle.sets.specs.declared.refusal.Refusal.the-variants.{Dry as DryStream}
-use Rattle.sets.specs.Result.{Result, done, refused}
+use Rattle.sets.specs.Result.{Result}
 use Rattle.sets.proofs.Results.{not-done}
 use Rattle.sampling.specs.declared.Sampled.{Sampled}
 use Rattle.sampling.specs.declared.Sampled.the-variants.{All, Dry}

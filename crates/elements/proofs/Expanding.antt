@@ -1,21 +1,19 @@
 -- What the samplers draw from SHAKE256's stream is the definition's element.
 use mathlib.Core.Path.{_≡_, refl, sym, ap, subst, _∙_}
 use mathlib.Core.List.{List, [], _∷_, _++_, append-nil, map}
-use Prim.Native.Nat.{ℕ, suc, _+_, _-_, _*_, _/_, _%_, _^_, _≤_, _<_}
-use lib.IntN.{ℤ}
+use Prim.Native.Nat.{ℕ, suc, _/_, _%_, _≤_, _<_}
 use native.Mathlib.Omega.{arith}
 use mathlib.Core.Bool.{Bool, true}
 use lib.ListN.{length, getD}
 use Rattle.outcome.specs.Outcome.{Is}
 use Rattle.sets.specs.Set.{Set}
 use Rattle.sets.specs.Good.{Good}
-use Rattle.sets.specs.Result.{Result, done, refused}
 use Rattle.shake.specs.Shake.{shake256}
 use Rattle.shake.proofs.Output.{length-shake256}
 use Rattle.residues.specs.Remainder.{residue}
-use Rattle.digits.specs.Digits.{digits, codes, twoBytes}
+use Rattle.digits.specs.Digits.{digits, codes}
 use Rattle.packing.specs.declared.unpack.Unpacked.{Unpacked}
-use Rattle.packing.specs.declared.unpack.Unpacked.the-variants.{All as AllRead, BadAt}
+use Rattle.packing.specs.declared.unpack.Unpacked.the-variants.{All as AllRead}
 use Rattle.packing.specs.Layouts.{yLayout, allowed, means, size}
 use Rattle.packing.specs.declared.layout.Layout.{Layout}
 use Rattle.packing.specs.Engine.{Readable, scan, writtenTo, remainders, unpackedTo}

@@ -2,7 +2,7 @@
 -- Any two seeds from which make_keys answers Done, any message, any limit, any buffers: if sign, given that secret key, answers Signed, then check, given
 -- that public key, that signature and that message, answers Done; if sign answers that its tries ran out, then each of those tries fails for one of the
 -- reasons 1 to 5; and sign answers nothing else where its lengths and its limit are right.
-use mathlib.Core.Path.{_≡_, refl, sym, ap, subst, _∙_}
+use mathlib.Core.Path.{_≡_, sym, ap, subst, _∙_}
 use mathlib.Core.Logic.{_⊎_, ⊎-elim, inl, inr}
 use mathlib.Core.List.{List}
 use Prim.Native.Nat.{ℕ, _≤_}
@@ -11,7 +11,7 @@ use borrow.Author.Tests.{leb-true}
 use contract.Lifetimes.{Lfts}
 use denote.Ref.{now}
 use denote.Triple.Clauses.{AtExit}
-use borrow.Fn.Kinds.{Dens, resT, endedOf}
+use borrow.Fn.Kinds.{Dens, endedOf}
 use lib.Dec.{eqb, leb}
 use lib.ListN.{length}
 use Rattle.outcome.specs.Outcome.{Is}
@@ -24,14 +24,14 @@ use Rattle.sets.specs.declared.refusal.Answer.the-variants.{Done, Refused}
 use Rattle.sets.specs.declared.refusal.Signing.{Signing}
 use Rattle.sets.specs.declared.refusal.Signing.the-variants.{Signed as SignedAfter, Refused as RefusedAfter}
 use Rattle.sets.specs.Refusals.{reportOf, signingReport}
-use Rattle.sets.specs.Result.{Result, done, refused, told, left, outcome}
+use Rattle.sets.specs.Result.{Result, done, refused, told, outcome}
 use Rattle.sets.proofs.Results.{need-inv}
 use Rattle.sets.proofs.Reports.{report-one, signing-one}
 use Rattle.shake.specs.Shake.{shake256}
 use Rattle.packing.specs.Parts.{total, secretParts, signatureParts}
 use Rattle.ring.specs.Profile.{set1}
 use Rattle.scheme.specs.Keys.{Pair, makeKeys}
-use Rattle.scheme.specs.Sign.{Signed, rhoOf, countAt, signWith, sign, signTold, signLeft, signOutcome}
+use Rattle.scheme.specs.Sign.{Signed, rhoOf, countAt, signWith, sign, signTold, signOutcome}
 use Rattle.scheme.specs.Check.{check}
 use Rattle.scheme.specs.Demand3.{Keys, AllFail}
 use Rattle.level1.proofs.Demand3.{demand3-level1}

@@ -6,7 +6,6 @@ use lib.IntN.{ℤ}
 use denote.Ref.{now}
 use Rattle.outcome.proofs.One.{One, OneGiven}
 use Rattle.sets.specs.Set.{Set}
-use Rattle.sets.specs.declared.refusal.Refusal.{Refusal}
 use Rattle.sets.specs.declared.refusal.Refusal.the-variants.{Coefficient, Dry as DryStream}
 use Rattle.sets.specs.declared.refusal.Field.the-variants.{S}
 use Rattle.sets.specs.Refusals.{refusalIndex}

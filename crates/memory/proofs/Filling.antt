@@ -1,5 +1,5 @@
 -- A lent part of the memory that comes back filled.
-use mathlib.Core.Path.{_≡_, refl, sym, ap, subst, _∙_}
+use mathlib.Core.Path.{_≡_, sym, ap, subst, _∙_}
 use mathlib.Core.List.{List, map}
 use Prim.Native.Nat.{ℕ, _+_, _-_, _*_, _≤_, _<_}
 use native.Mathlib.Omega.{arith}
@@ -11,14 +11,13 @@ use mathlib.Core.Bool.{true}
 use Rattle.sets.specs.Set.{Set, capacity}
 use Rattle.sets.specs.Good.{Trinomial}
 use Rattle.ring.specs.Engine.{Residues}
-use Rattle.sets.specs.declared.refusal.Refusal.{Refusal}
-use Rattle.sets.specs.Result.{Result, done, refused}
+use Rattle.sets.specs.Result.{Result}
 use Rattle.residues.specs.Remainder.{residue, signed}
 use Rattle.digits.specs.Digits.{codes}
 use Rattle.packing.specs.declared.layout.Layout.{Layout}
 use Rattle.packing.specs.declared.unpack.Unpacked.{Unpacked}
 use Rattle.packing.specs.declared.unpack.Unpacked.the-variants.{All as AllRead, BadAt}
-use Rattle.packing.specs.Layouts.{means, allowed, holds, size, pack, unpack}
+use Rattle.packing.specs.Layouts.{means, allowed, holds, size, pack}
 use Rattle.packing.specs.Engine.{Readable, scan, remainders, unpackedTo, writtenTo}
 use Rattle.packing.proofs.Reading.{residues-means, unpack-all, unpack-bad}
 use Rattle.sampling.specs.declared.Sampled.{Sampled}

@@ -1,7 +1,7 @@
 -- The checks of a signing call in their order, and the two hashes before the tries.
-use mathlib.Core.Path.{_≡_, refl, sym, ap, subst, _∙_}
-use mathlib.Core.Bool.{true, false, _&&_}
-use mathlib.Core.List.{List, [], _∷_, _++_, append-nil}
+use mathlib.Core.Path.{_≡_, sym, _∙_}
+use mathlib.Core.Bool.{_&&_}
+use mathlib.Core.List.{List, [], _++_, append-nil}
 use Prim.Native.Nat.{ℕ, _≤_, _<_}
 use borrow.Author.Tests.{le-leb, lt-leb}
 use lib.Dec.{leb}
@@ -9,10 +9,10 @@ use lib.ListN.{length, take, drop}
 use Rattle.sets.specs.Set.{Set, messageMax, tryMax}
 use Rattle.sets.specs.declared.refusal.Buffer.the-variants.{SecretKey as SecretBuffer, Signature as SignatureBuffer}
 use Rattle.sets.specs.declared.refusal.Refusal.the-variants.{Length, LongMessage, TryLimit}
-use Rattle.sets.specs.Result.{Result, refused}
+use Rattle.sets.specs.Result.{refused}
 use Rattle.sets.proofs.Outcomes.{equal, unequal, at-most, above, holds, fails}
 use Rattle.shake.specs.Shake.{shake256}
-use Rattle.packing.specs.Parts.{total, part, secretParts, signatureParts}
+use Rattle.packing.specs.Parts.{total, secretParts, signatureParts}
 use Rattle.ring.specs.Profile.{trinomial}
 use Rattle.scheme.specs.Sign.{muOf, rhoOf, signWith, sign}
 use Rattle.signing.specs.Calls.{signedFrom}

@@ -1,9 +1,8 @@
 -- A try fails for the first reason that holds, and passes where none does.
-use mathlib.Core.Path.{_≡_, refl, sym, ap, _∙_}
-use mathlib.Core.Bool.{true, false}
+use mathlib.Core.Path.{_≡_, sym, ap, _∙_}
+use mathlib.Core.Bool.{true}
 use mathlib.Core.List.{List}
 use Prim.Native.Nat.{ℕ, _-_, _≤_, _<_}
-use native.Mathlib.Omega.{arith}
 use borrow.Author.Tests.{le-leb, lt-leb}
 use lib.Dec.{leb}
 use lib.IntN.{ℤ}
@@ -15,7 +14,7 @@ use Rattle.ring.specs.Profile.{trinomial, mul}
 use Rattle.sampling.specs.Samplers.{Drawn, drew, dry}
 use Rattle.sampling.specs.Streams.{expandC}
 use Rattle.scheme.specs.Elements.{highs, lows}
-use Rattle.scheme.specs.Try.{Try, passes, fails, Reason, ChallengeDry, ZLarge, LowLarge, Ct0Large, ManyOnes, Signer, response, masked, hints, commit, judged, try}
+use Rattle.scheme.specs.Try.{Try, passes, fails, ChallengeDry, ZLarge, LowLarge, Ct0Large, ManyOnes, Signer, response, masked, hints, commit, judged, try}
 use Rattle.signing.specs.Stages.{yOf, wOf}
 
 module _ (p : Set) (S : Signer) (κ : ℕ) (c~ : List ℕ) (e : c~ ≡ commit (trinomial p) shake256 (S .mu) (highs (trinomial p) (wOf p S κ))) where

@@ -9,9 +9,8 @@ use Rattle.sets.specs.Set.{Set}
 use Rattle.sets.specs.Good.{Trinomial}
 use Rattle.sets.specs.declared.refusal.Refusal.{Refusal}
 use Rattle.sets.specs.declared.refusal.Refusal.the-variants.{Coefficient, Dry as DryStream}
-use Rattle.sets.specs.declared.refusal.Field.{Field}
 use Rattle.sets.specs.declared.refusal.Field.the-variants.{S1, S2, T0}
-use Rattle.sets.specs.Result.{Result, done, refused, _>>=_}
+use Rattle.sets.specs.Result.{done, refused}
 use Rattle.sets.proofs.Outcomes.{stops, gives}
 use Rattle.residues.specs.Remainder.{residue, signed}
 use Rattle.residues.proofs.Remainders.{residue-small}
@@ -25,8 +24,6 @@ use Rattle.packing.specs.Parts.{total, part, secretParts, readSecret}
 use Rattle.packing.specs.Engine.{Readable}
 use Rattle.packing.proofs.Elements.{was-read}
 use Rattle.packing.proofs.Reading.{means-small}
-use Rattle.packing.proofs.Room.{s-readable, t0-readable}
-use Rattle.ring.specs.Ring.{at}
 use Rattle.ring.specs.Engine.{Residues}
 use Rattle.ring.specs.Profile.{trinomial}
 use Rattle.sampling.specs.Streams.{expandA}

@@ -1,9 +1,8 @@
 -- The norms that a try is judged by, coefficient by coefficient, as the memory has them.
-use mathlib.Core.Path.{_≡_, refl, sym, ap, subst, _∙_}
+use mathlib.Core.Path.{_≡_, sym, ap, subst, _∙_}
 use mathlib.Core.Bool.{true}
-use mathlib.Core.List.{List, [], _∷_, map}
-use mathlib.Core.Logic.{⊎-elim}
-use Prim.Native.Nat.{ℕ, zero, suc, _+_, _*_, _≤_, _<_, max}
+use mathlib.Core.List.{List, [], _∷_}
+use Prim.Native.Nat.{ℕ, suc, _+_, _*_, _≤_, _<_}
 use native.Mathlib.Omega.{arith}
 use native.Mathlib.Decide.{ℕ-discrete}
 use borrow.Author.Tests.{le-leb}
@@ -18,11 +17,10 @@ use Rattle.residues.proofs.Remainders.{residue-again}
 use Rattle.rounding.specs.Rounding.{norm, lowBits}
 use Rattle.rounding.proofs.Norms.{norm-each}
 use Rattle.rounding.proofs.Congruent.{q-pos, q-wide, low-cong, low-le}
-use Rattle.ring.specs.Ring.{at, tab}
+use Rattle.ring.specs.Ring.{at}
 use Rattle.ring.specs.Profile.{trinomial}
 use Rattle.ring.proofs.Lists.{length-tab, at-tab}
 use Rattle.ring.proofs.Signed.{at-reduced}
-use Rattle.slots.specs.Slots.{slot}
 use Rattle.slots.proofs.Memory.{at-slot}
 use Rattle.memory.specs.Holds.{Holds}
 use Rattle.memory.proofs.Holding.{residues-of}

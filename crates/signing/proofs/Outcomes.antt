@@ -2,7 +2,7 @@
 use mathlib.Core.Path.{_≡_, refl, sym, ap, subst, _∙_}
 use mathlib.Core.Bool.{true}
 use mathlib.Core.List.{List, [], _∷_, map}
-use Prim.Native.Nat.{ℕ, zero, suc, _+_, _-_, _*_, _≤_, _<_}
+use Prim.Native.Nat.{ℕ, zero, suc, _*_, _≤_, _<_}
 use native.Mathlib.Omega.{arith}
 use lib.IntN.{ℤ, pos, natAbs}
 use lib.ListN.{length, getD}
@@ -15,11 +15,11 @@ use Rattle.sets.specs.declared.refusal.Refusal.{Refusal}
 use Rattle.sets.specs.declared.refusal.Refusal.the-variants.{Spent as SpentTries}
 use Rattle.sets.specs.declared.refusal.Signing.the-variants.{Signed as SignedAnswer, Refused as RefusedAfter}
 use Rattle.sets.specs.Refusals.{refusalReport, signingReport}
-use Rattle.sets.specs.Result.{Result, done, refused, _>>=_}
+use Rattle.sets.specs.Result.{Result, done, refused}
 use Rattle.sets.proofs.Outcomes.{stops, gives}
-use Rattle.residues.specs.Remainder.{residue, signed, centred, magnitude}
+use Rattle.residues.specs.Remainder.{signed, centred, magnitude}
 use Rattle.residues.proofs.Centres.{centred-again}
-use Rattle.rounding.specs.Rounding.{norm, makeHint}
+use Rattle.rounding.specs.Rounding.{makeHint}
 use Rattle.rounding.proofs.Norms.{norm-each}
 use Rattle.rounding.proofs.Congruent.{q-pos, q-wide}
 use Rattle.rounding.proofs.Hints.{bit}
@@ -32,16 +32,14 @@ use Rattle.ring.specs.Ring.{at}
 use Rattle.ring.specs.Profile.{trinomial, mul}
 use Rattle.ring.proofs.Lists.{length-tab, at-tab}
 use Rattle.slots.specs.Slots.{slot}
-use Rattle.memory.specs.Holds.{Holds}
 use Rattle.memory.proofs.Bridges.{centring-is, small-back}
-use Rattle.memory.proofs.Holding.{residues-of}
-use Rattle.scheme.specs.Elements.{plus, negated, centring}
+use Rattle.scheme.specs.Elements.{plus, negated}
 use Rattle.scheme.specs.Try.{Signer, response, masked, hints, try}
 use Rattle.scheme.specs.Sign.{Signed, firstPass, readSigner, muOf, countAt, signTold, signLeft, signOutcome}
 use Rattle.scheme.proofs.Allowed.{kept-z, kept-hint}
 use Rattle.signing.specs.declared.tries.Tried.{Tried}
 use Rattle.signing.specs.declared.tries.Tried.the-variants.{Passed, Spent}
-use Rattle.signing.specs.Stages.{Ready, signerIn, yOf, wOf, Upto, Passes, Found}
+use Rattle.signing.specs.Stages.{Ready, signerIn, yOf, wOf, Passes, Found}
 use Rattle.signing.specs.Calls.{KeyRead, signedFrom}
 use Rattle.signing.proofs.Stages.{ready-of}
 

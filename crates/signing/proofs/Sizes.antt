@@ -1,8 +1,8 @@
 -- Sizes of the parts, as the code computes them, and the signature written part by part.
 use mathlib.Core.Path.{_≡_, refl, sym, ap, subst, _∙_}
 use mathlib.Core.Bool.{true}
-use mathlib.Core.List.{List, [], _∷_, _++_, map}
-use Prim.Native.Nat.{ℕ, _+_, _*_, _^_, _≤_, _<_}
+use mathlib.Core.List.{List, [], _∷_}
+use Prim.Native.Nat.{ℕ, _+_, _*_, _≤_, _<_}
 use native.Mathlib.Omega.{arith}
 use lib.IntN.{ℤ}
 use lib.ListN.{length, getD}
@@ -16,8 +16,6 @@ use Rattle.packing.specs.Engine.{Readable}
 use Rattle.packing.proofs.Elements.{length-pack}
 use Rattle.packing.proofs.Joins.{length-join}
 use Rattle.packing.proofs.Room.{bits-room, s-readable, t0-readable, z-readable, hint-readable}
-use Rattle.ring.specs.Engine.{Residues}
-use Rattle.slots.specs.Slots.{slot}
 use Rattle.memory.specs.Put.{put}
 use Rattle.memory.proofs.Placing.{puts-join}
 

@@ -1,7 +1,7 @@
 -- The memory of signing from stage to stage: what it holds, and what the next call asks.
 use mathlib.Core.Path.{_≡_, refl, sym, ap, subst, _∙_}
 use mathlib.Core.List.{List, [], _∷_, _++_, append-nil, map}
-use Prim.Native.Nat.{ℕ, zero, suc, _+_, _-_, _*_, _%_, _≤_, _<_}
+use Prim.Native.Nat.{ℕ, zero, suc, _+_, _*_, _%_, _≤_, _<_}
 use native.Mathlib.Nat.{add-comm, add-mul, one-mul, zero-mul, mul-le-mul-right}
 use native.Mathlib.Omega.{arith}
 use native.Mathlib.Decide.{ℕ-discrete}
@@ -29,14 +29,13 @@ use Rattle.sampling.proofs.Masking.{y-length}
 use Rattle.shake.specs.Shake.{shake256}
 use Rattle.slots.specs.Slots.{slot, Within, Wrote}
 use Rattle.slots.specs.Elements.{added, lessened, hinted, highsOf}
-use Rattle.memory.specs.Filled.{Touched}
 use Rattle.memory.specs.Holds.{Holds, Keeps}
 use Rattle.memory.proofs.Bridges.{mul-is, plus-is, minus-is, highs-are, small-back}
-use Rattle.memory.proofs.Holding.{holds-kept, holds-wrote, holds-mul, holds-added, holds-minus, holds-hints, holds-highs, residues-of, wrote-again}
+use Rattle.memory.proofs.Holding.{holds-kept, holds-wrote, holds-mul, holds-hints, holds-highs, residues-of, wrote-again}
 use Rattle.scheme.specs.Elements.{plus, minus, highs}
 use Rattle.scheme.specs.Try.{Signer, commit}
 use Rattle.scheme.proofs.Allowed.{kept-w1}
-use Rattle.signing.specs.Stages.{Ready, signerIn, yOf, wOf, elementAt, Upto, commitmentOf}
+use Rattle.signing.specs.Stages.{Ready, signerIn, yOf, elementAt, Upto, commitmentOf}
 
 length-product : (p : Set) (a b : List ℤ) → length (mul (trinomial p) a b) ≡ p .n
 unfolding product

@@ -1,7 +1,7 @@
 -- The tries: what holds at the head of each, and what each end of it gives.
 use mathlib.Core.Path.{_≡_, refl, sym, ap, subst, _∙_}
-use mathlib.Core.List.{List, [], _∷_, map}
-use Prim.Native.Nat.{ℕ, zero, suc, _+_, _-_, _*_, _≤_, _<_}
+use mathlib.Core.List.{List, [], map}
+use Prim.Native.Nat.{ℕ, suc, _+_, _-_, _*_, _≤_, _<_}
 use native.Mathlib.Nat.{sub-zero}
 use native.Mathlib.Numerals.{add-one}
 use native.Mathlib.Omega.{arith}
@@ -12,15 +12,14 @@ use Rattle.sets.specs.Good.{Trinomial}
 use Rattle.sets.specs.declared.refusal.Refusal.the-variants.{Spent as SpentTries, Dry as DryStream}
 use Rattle.sets.specs.Result.{Result, done, refused}
 use Rattle.sets.proofs.Results.{not-done}
-use Rattle.residues.specs.Remainder.{residue, signed}
+use Rattle.residues.specs.Remainder.{residue}
 use Rattle.residues.proofs.Remainders.{residue-small}
 use Rattle.residues.proofs.Order.{below-or}
 use mathlib.Core.Logic.{⊎-elim}
-use Rattle.rounding.specs.Rounding.{norm, makeHint}
+use Rattle.rounding.specs.Rounding.{makeHint}
 use Rattle.rounding.proofs.Congruent.{q-pos, q-wide}
 use Rattle.rounding.proofs.Hints.{bit}
 use Rattle.shake.specs.Shake.{shake256}
-use Rattle.packing.specs.Parts.{ones, packSignature}
 use Rattle.ring.specs.Ring.{at, tab}
 use Rattle.ring.specs.Profile.{trinomial, mul}
 use Rattle.ring.proofs.Lists.{map-tab, tab-cong, at-tab, past-tab}
@@ -36,8 +35,8 @@ use Rattle.memory.proofs.Holding.{keeps-touched}
 use Rattle.memory.specs.Holds.{Holds, Keeps}
 use Rattle.scheme.specs.Elements.{plus, negated, highs, makeHints}
 use Rattle.scheme.specs.Try.{Try, passes, fails, Reason, Signer, commit, masked, hints, try}
-use Rattle.scheme.specs.Sign.{Signed, firstPass, orNext}
-use Rattle.signing.specs.Stages.{Ready, signerIn, yOf, wOf, Upto, commitmentOf}
+use Rattle.scheme.specs.Sign.{firstPass, orNext}
+use Rattle.signing.specs.Stages.{Ready, signerIn, wOf, Upto, commitmentOf}
 use Rattle.signing.proofs.Stages.{upto-keeps, upto-key, upto-less, upto-signer, ready-of, commit-is, stage-c}
 
 -- ---- the first try that passes

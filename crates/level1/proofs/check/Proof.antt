@@ -8,28 +8,20 @@ use Rattle.sets.specs.Good.{Trinomial}
 use Rattle.sets.specs.Set.{Set}
 use Prim.Native.Nat.{_*_, _≤_}
 use native.Mathlib.Omega.{arith}
-use mathlib.Core.Path.{_≡_, refl, sym, subst}
+use mathlib.Core.Path.{_≡_, sym, subst}
 use borrow.Author.Needs.{needs}
 use Rattle.level1.proofs.check.Statement.{statement}
 use Rattle.level1.proofs.check.Tie as tie
-use Rattle.level1.proofs.check.Reads as reads
-use Rattle.level1.proofs.check.Lts as lts
-use Rattle.checking.proofs.check.Reads as check-reads
-use Rattle.sets.proofs.trinomial1.Trinomial1.numbers.Reads as numbers-reads
 
--- src/lib.rt:46:21
 numbers-requires : tie.Need-numbers-requires
 numbers-requires c κs = search needs
 
--- src/lib.rt:46:72
 slice-aggregate-check : tie.Need-slice-aggregate-check
 slice-aggregate-check c = search needs
 
--- src/lib.rt:46:5
 check-requires : tie.Need-check-requires
 check-requires c κs = (subst Trinomial (sym (c .before .numbers .ensures)) ready-tri1, subst (λ (p : Set). 11 * p .n ≤ 12672) (sym (c .before .numbers .ensures)) (omega arith))
 
--- src/lib.rt:42:1
 returns : tie.Need-returns
 returns c = subst (λ (p : Set). reportOf (c .before .check .result) ≡ told (check (trinomial p) shake256 (c .before .before .before .before .before .before .before .args .public .now) (c .before .before .before .before .before .before .before .args .signature .now) (c .before .before .before .before .before .before .before .args .message .now))) (c .before .before .before .numbers .ensures) (c .before .check .ensures)
 

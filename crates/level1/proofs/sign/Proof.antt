@@ -4,37 +4,27 @@ use Rattle.shake.specs.Shake.{shake256}
 use Rattle.sets.proofs.Five.{ready-tri1}
 use Rattle.sets.specs.Refusals.{signingReport}
 use Rattle.sets.specs.Good.{Trinomial}
-use Rattle.sets.specs.Set.{Set, tri1}
+use Rattle.sets.specs.Set.{Set}
 use Rattle.outcome.specs.Outcome.{Is}
-use lib.ListN.{length}
 use Prim.Native.Nat.{_*_, _≤_}
 use native.Mathlib.Omega.{arith}
-use mathlib.Core.Path.{_≡_, refl, sym, subst}
+use mathlib.Core.Path.{sym, subst}
 use borrow.Author.Needs.{needs}
 use Rattle.level1.proofs.sign.Statement.{statement}
 use Rattle.level1.proofs.sign.Tie as tie
-use Rattle.level1.proofs.sign.Reads as reads
-use Rattle.level1.proofs.sign.Lts as lts
-use Rattle.sets.proofs.trinomial1.Trinomial1.numbers.Reads as numbers-reads
-use Rattle.signing.proofs.sign.sign.Reads as sign-reads
 
--- src/lib.rt:21:9
 numbers-requires : tie.Need-numbers-requires
 numbers-requires c κs = search needs
 
--- src/lib.rt:26:9
 slice-aggregate-sign : tie.Need-slice-aggregate-sign
 slice-aggregate-sign c = search needs
 
--- src/lib.rt:20:5
 sign-requires : tie.Need-sign-requires
 sign-requires c κs = (subst Trinomial (sym (c .before .before .numbers .ensures)) ready-tri1, subst (λ (p : Set). 11 * p .n ≤ 12672) (sym (c .before .before .numbers .ensures)) (omega arith))
 
--- src/lib.rt:16:1
 same-length : tie.Need-same-length
 same-length c = search needs
 
--- src/lib.rt:16:1
 returns : tie.Need-returns
 returns c = subst (λ (p : Set). Is (signOutcome (c .before .before .before .before .before .before .before .before .before .before .args .limit) (sign (trinomial p) shake256 (c .before .before .before .before .before .before .before .before .before .before .args .key .now) (c .before .before .before .before .before .before .before .before .before .before .args .message .now) (c .before .before .before .before .before .before .before .before .before .before .args .limit) (c .before .before .before .before .before .before .before .before .before .before .args .signature .now)) (c .before .before .before .before .before .before .before .before .before .before .args .signature .now)) (signingReport (c .before .before .before .sign .result)) (c .before .before .before .sign .last .1 .1 .1 .1 .0)) (c .before .before .before .before .before .before .numbers .ensures) (c .before .before .before .sign .ensures)
 

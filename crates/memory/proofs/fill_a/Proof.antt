@@ -1,47 +1,35 @@
 use Rattle.sampling.specs.Streams.{expandA}
 use Rattle.shake.specs.Shake.{shake256}
-use Rattle.memory.proofs.Filling.{filled, filled-with, read-in, part-long}
-use mathlib.Core.Path.{_≡_, sym, ap, subst, _∙_}
+use Rattle.memory.proofs.Filling.{filled, part-long}
+use mathlib.Core.Path.{_∙_}
 use borrow.Author.Needs.{needs}
 use Rattle.memory.proofs.fill_a.Statement.{statement}
 use Rattle.memory.proofs.fill_a.Tie as tie
-use Rattle.memory.proofs.fill_a.Reads as reads
-use Rattle.memory.proofs.fill_a.Lts as lts
-use Rattle.elements.proofs.streams.expand_a.Reads as expand-a-reads
 
--- src/lib.rt:28:14
 mul-at : tie.Need-mul-at
 mul-at c = search needs
 
--- src/lib.rt:29:15
 add-end : tie.Need-add-end
 add-end c = search needs
 
--- src/lib.rt:30:42
 mul-expand-a : tie.Need-mul-expand-a
 mul-expand-a c = search needs
 
--- src/lib.rt:30:42
 sub-expand-a : tie.Need-sub-expand-a
 sub-expand-a c = search needs
 
--- src/lib.rt:30:42
 part-expand-a-start : tie.Need-part-expand-a-start
 part-expand-a-start c = search needs
 
--- src/lib.rt:30:42
 part-expand-a-end : tie.Need-part-expand-a-end
 part-expand-a-end c = search needs
 
--- src/lib.rt:30:5
 expand-a-requires : tie.Need-expand-a-requires
 expand-a-requires c κs = search needs
 
--- src/lib.rt:23:1
 same-length : tie.Need-same-length
 same-length c = search needs
 
--- src/lib.rt:23:1
 returns : tie.Need-returns
 returns c = filled (c .before .before .before .before .before .before .before .before .args .p) (c .before .before .before .before .before .before .before .before .args .k) (c .before .before .before .before .before .before .before .before .args .work .now) (c .before .before .before .before .before .before .before .before .pre .1 .1) (expandA (c .before .before .before .before .before .before .before .before .args .p) shake256 (c .before .before .before .before .before .before .before .before .args .zeta .now)) (c .before .before .expand-a .result) (c .before .before .expand-a .last .1 .1 .0) (c .before .before .expand-a .kept .1 .1 .0 ∙ part-long (c .before .before .before .before .before .before .before .before .args .p .n) (c .before .before .before .before .before .before .before .before .args .k) (c .before .before .before .before .before .before .before .before .args .work .now) (c .before .before .before .before .before .before .before .before .pre .1 .1)) (c .before .before .expand-a .ensures)
 

@@ -1,47 +1,35 @@
 use Rattle.sampling.specs.Streams.{expandS}
 use Rattle.shake.specs.Shake.{shake256}
-use Rattle.memory.proofs.Filling.{filled, filled-with, read-in, part-long}
-use mathlib.Core.Path.{_≡_, sym, ap, subst, _∙_}
+use Rattle.memory.proofs.Filling.{filled, part-long}
+use mathlib.Core.Path.{_∙_}
 use borrow.Author.Needs.{needs}
 use Rattle.memory.proofs.fill_s.Statement.{statement}
 use Rattle.memory.proofs.fill_s.Tie as tie
-use Rattle.memory.proofs.fill_s.Reads as reads
-use Rattle.memory.proofs.fill_s.Lts as lts
-use Rattle.elements.proofs.streams.expand_s.Reads as expand-s-reads
 
--- src/lib.rt:39:14
 mul-at : tie.Need-mul-at
 mul-at c = search needs
 
--- src/lib.rt:40:15
 add-end : tie.Need-add-end
 add-end c = search needs
 
--- src/lib.rt:41:40
 mul-expand-s : tie.Need-mul-expand-s
 mul-expand-s c = search needs
 
--- src/lib.rt:41:40
 sub-expand-s : tie.Need-sub-expand-s
 sub-expand-s c = search needs
 
--- src/lib.rt:41:40
 part-expand-s-start : tie.Need-part-expand-s-start
 part-expand-s-start c = search needs
 
--- src/lib.rt:41:40
 part-expand-s-end : tie.Need-part-expand-s-end
 part-expand-s-end c = search needs
 
--- src/lib.rt:41:5
 expand-s-requires : tie.Need-expand-s-requires
 expand-s-requires c κs = search needs
 
--- src/lib.rt:34:1
 same-length : tie.Need-same-length
 same-length c = search needs
 
--- src/lib.rt:34:1
 returns : tie.Need-returns
 returns c = filled (c .before .before .before .before .before .before .before .before .args .p) (c .before .before .before .before .before .before .before .before .args .k) (c .before .before .before .before .before .before .before .before .args .work .now) (c .before .before .before .before .before .before .before .before .pre .1 .1) (expandS (c .before .before .before .before .before .before .before .before .args .p) shake256 (c .before .before .before .before .before .before .before .before .args .xi .now)) (c .before .before .expand-s .result) (c .before .before .expand-s .last .1 .1 .0) (c .before .before .expand-s .kept .1 .1 .0 ∙ part-long (c .before .before .before .before .before .before .before .before .args .p .n) (c .before .before .before .before .before .before .before .before .args .k) (c .before .before .before .before .before .before .before .before .args .work .now) (c .before .before .before .before .before .before .before .before .pre .1 .1)) (c .before .before .expand-s .ensures)
 

@@ -2,43 +2,31 @@ use Rattle.memory.proofs.Filling.{asks-pack, packed-from}
 use borrow.Author.Needs.{needs}
 use Rattle.memory.proofs.pack_from.Statement.{statement}
 use Rattle.memory.proofs.pack_from.Tie as tie
-use Rattle.memory.proofs.pack_from.Reads as reads
-use Rattle.memory.proofs.pack_from.Lts as lts
-use Rattle.elements.proofs.bytes.pack.Reads as pack-reads
 
--- src/lib.rt:84:14
 mul-at : tie.Need-mul-at
 mul-at c = search needs
 
--- src/lib.rt:85:15
 add-end : tie.Need-add-end
 add-end c = search needs
 
--- src/lib.rt:86:35
 mul-pack : tie.Need-mul-pack
 mul-pack c = search needs
 
--- src/lib.rt:86:35
 sub-pack : tie.Need-sub-pack
 sub-pack c = search needs
 
--- src/lib.rt:86:35
 part-pack-start : tie.Need-part-pack-start
 part-pack-start c = search needs
 
--- src/lib.rt:86:35
 part-pack-end : tie.Need-part-pack-end
 part-pack-end c = search needs
 
--- src/lib.rt:86:5
 pack-requires : tie.Need-pack-requires
 pack-requires c κs = asks-pack (c .before .before .before .before .before .before .args .p) (c .before .before .before .before .before .before .args .k) (c .before .before .before .before .before .before .args .work .now) (c .before .before .before .before .before .before .pre .1 .0 .1) (c .before .before .before .before .before .before .args .l) (c .before .before .before .before .before .before .pre .0 .0) (c .before .before .before .before .before .before .pre .0 .1) _ (c .before .before .before .before .before .before .pre .1 .0 .2) (c .before .before .before .before .before .before .pre .1 .1 .0) (c .before .before .before .before .before .before .pre .1 .1 .1)
 
--- src/lib.rt:78:1
 same-length : tie.Need-same-length
 same-length c = search needs
 
--- src/lib.rt:78:1
 returns : tie.Need-returns
 returns c = packed-from (c .before .before .before .before .before .before .before .before .before .args .p) (c .before .before .before .before .before .before .before .before .before .args .k) (c .before .before .before .before .before .before .before .before .before .args .work .now) (c .before .before .before .before .before .before .before .before .before .pre .1 .0 .1) (c .before .before .before .before .before .before .before .before .before .args .l) _ (c .before .before .pack .ensures)
 

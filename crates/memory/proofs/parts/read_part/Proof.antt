@@ -2,44 +2,32 @@ use Prim.Native.Nat.{ℕ}
 use mathlib.Core.List.{List}
 use Rattle.memory.specs.Filled.{ReadIn}
 use Rattle.memory.proofs.Placing.{lent-is}
-use mathlib.Core.Path.{_≡_, sym, ap, subst, _∙_}
+use mathlib.Core.Path.{subst}
 use borrow.Author.Needs.{needs}
 use Rattle.memory.proofs.parts.read_part.Statement.{statement}
 use Rattle.memory.proofs.parts.read_part.Tie as tie
-use Rattle.memory.proofs.parts.read_part.Reads as reads
-use Rattle.memory.proofs.parts.read_part.Lts as lts
-use Rattle.memory.proofs.fill_read.Reads as fill-read-reads
-use Rattle.packing.proofs.layout.Layout.size.Reads as size-reads
 
--- src/parts.rt:45:20
 size-requires : tie.Need-size-requires
 size-requires c κs = search needs
 
--- src/parts.rt:45:15
 add-end : tie.Need-add-end
 add-end c = search needs
 
--- src/parts.rt:46:28
 sub-fill-read : tie.Need-sub-fill-read
 sub-fill-read c = search needs
 
--- src/parts.rt:46:28
 part-fill-read-start : tie.Need-part-fill-read-start
 part-fill-read-start c = search needs
 
--- src/parts.rt:46:28
 part-fill-read-end : tie.Need-part-fill-read-end
 part-fill-read-end c = search needs
 
--- src/parts.rt:46:5
 fill-read-requires : tie.Need-fill-read-requires
 fill-read-requires c κs = search needs
 
--- src/parts.rt:40:1
 same-length : tie.Need-same-length
 same-length c = search needs
 
--- src/parts.rt:40:1
 returns : tie.Need-returns
 returns c = subst (λ (bs : List ℕ). ReadIn (c .before .before .before .before .before .before .before .before .args .p) (c .before .before .before .before .before .before .before .before .args .k) (c .before .before .before .before .before .before .before .before .args .l) bs (c .before .before .before .before .before .before .before .before .args .work .now) (c .before .before .fill-read .result) (c .before .before .fill-read .last .1 .1 .1 .0)) (lent-is (c .before .before .before .before .before .before .before .before .args .at) (c .before .before .before .before .before .size .result) _ (c .before .before .before .before .before .before .before .before .args .bytes .now) (c .before .before .before .before .before .size .ensures)) (c .before .before .fill-read .ensures)
 

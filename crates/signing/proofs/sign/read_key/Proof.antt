@@ -30,13 +30,6 @@ use Rattle.signing.proofs.Trying.{room-kept, filled-all, filled-dry}
 use Rattle.signing.proofs.Keys.{part-s1, part-s2, part-t0, part-read, part-bad, bad-s1, bad-s2, bad-t0, dry-a, read-all, signed-back, plain-back, in-a, in-s1, in-s2, in-t0, in-ready, signer-is}
 use Rattle.signing.proofs.sign.read_key.Statement.{statement}
 use Rattle.signing.proofs.sign.read_key.Tie as tie
-use Rattle.signing.proofs.sign.read_key.Reads as reads
-use Rattle.signing.proofs.sign.read_key.Lts as lts
-use Rattle.memory.proofs.fill_a.Reads as fill-a-reads
-use Rattle.memory.proofs.parts.read_part.Reads as read-part-reads
-use Rattle.packing.proofs.layout.Layout.s.Reads as s-reads
-use Rattle.packing.proofs.layout.Layout.size.Reads as size-reads
-use Rattle.packing.proofs.layout.Layout.t0.Reads as t0-reads
 
 read-s1 : (c : tie.After-enum-told) → (zs : List ℤ) × ((g : ℕ → Refusal) → unpack (sLayout (c .before .before .before .before .before .before .before .before .before .before .before .args .p)) g (c .before .before .before .before .before .before .before .before .before .before .before .args .p .n) (part (secretParts (c .before .before .before .before .before .before .before .before .before .before .before .args .p)) 3 (c .before .before .before .before .before .before .before .before .before .before .before .args .key .now)) ≡ done zs) × Wrote (c .before .before .before .before .before .before .before .before .before .before .before .args .p .n) 1 (map (residue (c .before .before .before .before .before .before .before .before .before .before .before .args .p .q)) zs) (c .before .before .before .before .before .before .before .before .before .before .before .args .work .now) (c .before .before .before .before .read-part .last .1 .1 .1 .1 .0)
 read-s1 c = part-read (c .before .before .before .before .before .before .before .before .before .before .before .args .p) 1 (c .before .before .before .before .before .before .s2 .result) (sLayout (c .before .before .before .before .before .before .before .before .before .before .before .args .p)) (c .before .before .before .before .before .before .s2 .ensures) (drop 96 (c .before .before .before .before .before .before .before .before .before .before .before .args .key .now)) (part (secretParts (c .before .before .before .before .before .before .before .before .before .before .before .args .p)) 3 (c .before .before .before .before .before .before .before .before .before .before .before .args .key .now)) (c .before .before .before .before .before .before .before .before .before .before .before .args .work .now) (c .before .before .before .before .read-part .last .1 .1 .1 .1 .0) (c .before .before .before .before .read-part .result) (c .before .before .before .before .read-part .ensures) (part-s1 (c .before .before .before .before .before .before .before .before .before .before .before .args .p) (c .before .before .before .before .before .before .before .before .before .before .before .args .key .now)) (c .enum-told .given .1)
@@ -56,123 +49,96 @@ stored c = (in-a (c .before .before .before .before .before .before .before .bef
 signer : (c : tie.After-enum-told4) (μ ρ : List ℕ) → _≡_ {A = Signer} record { a = (drew-a c) .0; s1 = (read-s1 (c .before .before .before .before .before .before .before .before .before .before .before .before .before .before .before .before .before .before .before .before .before)) .0; s2 = (read-s2 (c .before .before .before .before .before .before .before .before .before .before .before .before .before .before)) .0; t0 = (read-t0 (c .before .before .before .before .before .before .before)) .0; mu = μ; rho = ρ } (signerIn (c .before .before .before .before .before .before .before .before .before .before .before .before .before .before .before .before .before .before .before .before .before .before .before .before .before .before .before .before .before .before .before .before .args .p) (c .before .before .before .before .fill-a .last .1 .1 .0) μ ρ)
 signer c = signer-is (c .before .before .before .before .before .before .before .before .before .before .before .before .before .before .before .before .before .before .before .before .before .before .before .before .before .before .before .before .before .before .before .before .args .p) (c .before .before .before .before .before .before .before .before .before .before .before .before .before .before .before .before .before .before .before .before .before .before .before .before .before .before .before .before .before .before .before .before .pre .0 .0) ((drew-a c) .0) ((read-s1 (c .before .before .before .before .before .before .before .before .before .before .before .before .before .before .before .before .before .before .before .before .before)) .0) ((read-s2 (c .before .before .before .before .before .before .before .before .before .before .before .before .before .before)) .0) ((read-t0 (c .before .before .before .before .before .before .before)) .0) (c .before .before .before .before .fill-a .last .1 .1 .0) (plain-back (c .before .before .before .before .before .before .before .before .before .before .before .before .before .before .before .before .before .before .before .before .before .before .before .before .before .before .before .before .before .before .before .before .args .p) (c .before .before .before .before .before .before .before .before .before .before .before .before .before .before .before .before .before .before .before .before .before .before .before .before .before .before .before .before .before .before .before .before .pre .0 .0) (take 32 (c .before .before .before .before .before .before .before .before .before .before .before .before .before .before .before .before .before .before .before .before .before .before .before .before .before .before .before .before .before .before .before .before .args .key .now)) ((drew-a c) .0) ((drew-a c) .1) (stored c .0)) (signed-back (c .before .before .before .before .before .before .before .before .before .before .before .before .before .before .before .before .before .before .before .before .before .before .before .before .before .before .before .before .before .before .before .before .args .p) (c .before .before .before .before .before .before .before .before .before .before .before .before .before .before .before .before .before .before .before .before .before .before .before .before .before .before .before .before .before .before .before .before .pre .0 .0) (sLayout (c .before .before .before .before .before .before .before .before .before .before .before .before .before .before .before .before .before .before .before .before .before .before .before .before .before .before .before .before .before .before .before .before .args .p)) (s-readable (c .before .before .before .before .before .before .before .before .before .before .before .before .before .before .before .before .before .before .before .before .before .before .before .before .before .before .before .before .before .before .before .before .args .p) ((c .before .before .before .before .before .before .before .before .before .before .before .before .before .before .before .before .before .before .before .before .before .before .before .before .before .before .before .before .before .before .before .before .pre .0 .0) .good)) (Coefficient S1) (part (secretParts (c .before .before .before .before .before .before .before .before .before .before .before .before .before .before .before .before .before .before .before .before .before .before .before .before .before .before .before .before .before .before .before .before .args .p)) 3 (c .before .before .before .before .before .before .before .before .before .before .before .before .before .before .before .before .before .before .before .before .before .before .before .before .before .before .before .before .before .before .before .before .args .key .now)) ((read-s1 (c .before .before .before .before .before .before .before .before .before .before .before .before .before .before .before .before .before .before .before .before .before)) .0) ((read-s1 (c .before .before .before .before .before .before .before .before .before .before .before .before .before .before .before .before .before .before .before .before .before)) .1 (Coefficient S1)) (stored c .1)) (signed-back (c .before .before .before .before .before .before .before .before .before .before .before .before .before .before .before .before .before .before .before .before .before .before .before .before .before .before .before .before .before .before .before .before .args .p) (c .before .before .before .before .before .before .before .before .before .before .before .before .before .before .before .before .before .before .before .before .before .before .before .before .before .before .before .before .before .before .before .before .pre .0 .0) (sLayout (c .before .before .before .before .before .before .before .before .before .before .before .before .before .before .before .before .before .before .before .before .before .before .before .before .before .before .before .before .before .before .before .before .args .p)) (s-readable (c .before .before .before .before .before .before .before .before .before .before .before .before .before .before .before .before .before .before .before .before .before .before .before .before .before .before .before .before .before .before .before .before .args .p) ((c .before .before .before .before .before .before .before .before .before .before .before .before .before .before .before .before .before .before .before .before .before .before .before .before .before .before .before .before .before .before .before .before .pre .0 .0) .good)) (Coefficient S2) (part (secretParts (c .before .before .before .before .before .before .before .before .before .before .before .before .before .before .before .before .before .before .before .before .before .before .before .before .before .before .before .before .before .before .before .before .args .p)) 4 (c .before .before .before .before .before .before .before .before .before .before .before .before .before .before .before .before .before .before .before .before .before .before .before .before .before .before .before .before .before .before .before .before .args .key .now)) ((read-s2 (c .before .before .before .before .before .before .before .before .before .before .before .before .before .before)) .0) ((read-s2 (c .before .before .before .before .before .before .before .before .before .before .before .before .before .before)) .1 (Coefficient S2)) (stored c .2)) (signed-back (c .before .before .before .before .before .before .before .before .before .before .before .before .before .before .before .before .before .before .before .before .before .before .before .before .before .before .before .before .before .before .before .before .args .p) (c .before .before .before .before .before .before .before .before .before .before .before .before .before .before .before .before .before .before .before .before .before .before .before .before .before .before .before .before .before .before .before .before .pre .0 .0) (t0Layout (c .before .before .before .before .before .before .before .before .before .before .before .before .before .before .before .before .before .before .before .before .before .before .before .before .before .before .before .before .before .before .before .before .args .p)) (t0-readable (c .before .before .before .before .before .before .before .before .before .before .before .before .before .before .before .before .before .before .before .before .before .before .before .before .before .before .before .before .before .before .before .before .args .p) ((c .before .before .before .before .before .before .before .before .before .before .before .before .before .before .before .before .before .before .before .before .before .before .before .before .before .before .before .before .before .before .before .before .pre .0 .0) .good)) (Coefficient T0) (part (secretParts (c .before .before .before .before .before .before .before .before .before .before .before .before .before .before .before .before .before .before .before .before .before .before .before .before .before .before .before .before .before .before .before .before .args .p)) 5 (c .before .before .before .before .before .before .before .before .before .before .before .before .before .before .before .before .before .before .before .before .before .before .before .before .before .before .before .before .before .before .before .before .args .key .now)) ((read-t0 (c .before .before .before .before .before .before .before)) .0) ((read-t0 (c .before .before .before .before .before .before .before)) .1 (Coefficient T0)) (stored c .3))
 
--- src/sign.rt:60:13
 s-requires : tie.Need-s-requires
 s-requires c κs = search needs
 
--- src/sign.rt:60:9
 size-requires : tie.Need-size-requires
 size-requires c κs = asks-size (c .before .before .before .args .p) (c .before .before .before .pre .0 .0) (c .s .result) (sLayout (c .before .before .before .args .p)) (c .s .ensures) (s-readable (c .before .before .before .args .p) ((c .before .before .before .pre .0 .0) .good))
 
--- src/sign.rt:61:45
 s-requires-2 : tie.Need-s-requires-2
 s-requires-2 c κs = search needs
 
--- src/sign.rt:61:9
 read-part-requires : tie.Need-read-part-requires
 read-part-requires c κs = (((c .before .before .before .before .before .before .pre .0 .0) .good, made-readable (c .before .before .before .before .before .before .args .p) (c .before .before .before .before .before .before .pre .0 .0) (c .before .s2 .result) (sLayout (c .before .before .before .before .before .before .args .p)) (c .before .s2 .ensures) (s-readable (c .before .before .before .before .before .before .args .p) ((c .before .before .before .before .before .before .pre .0 .0) .good))), (omega arith, within-room (c .before .before .before .before .before .before .args .p) (c .before .before .before .before .before .before .args .work .now) (c .before .before .before .before .before .before .pre .0 .1) 1 (omega arith), omega (arith, secret-total (c .before .before .before .before .before .before .args .p), secret-room (c .before .before .before .before .before .before .args .p) (c .before .before .before .before .before .before .pre .0 .0) .0, secret-room (c .before .before .before .before .before .before .args .p) (c .before .before .before .before .before .before .pre .0 .0) .1, c .before .before .before .before .before .before .pre .1, sized (c .before .before .before .before .before .before .args .p) (c .before .before .before .before .before .before .pre .0 .0) (c .before .s2 .result) (sLayout (c .before .before .before .before .before .before .args .p)) (c .before .s2 .ensures) (s-readable (c .before .before .before .before .before .before .args .p) ((c .before .before .before .before .before .before .pre .0 .0) .good)) _ refl .0), omega (arith, secret-total (c .before .before .before .before .before .before .args .p), secret-room (c .before .before .before .before .before .before .args .p) (c .before .before .before .before .before .before .pre .0 .0) .0, secret-room (c .before .before .before .before .before .before .args .p) (c .before .before .before .before .before .before .pre .0 .0) .1, c .before .before .before .before .before .before .pre .1)))
 
--- src/sign.rt:62:28
 enum-known-first : tie.Need-enum-known-first
 enum-known-first c = search needs
 
--- src/sign.rt:63:9
 same-length : tie.Need-same-length
 same-length c = search needs
 
--- src/sign.rt:63:9
 returns : tie.Need-returns
 returns c = (bad-s1 (c .before .before .before .before .before .before .before .before .before .before .before .before .args .p) (c .before .before .before .before .before .before .before .before .before .before .before .before .args .key .now) _ (part-bad (c .before .before .before .before .before .before .before .before .before .before .before .before .args .p) 1 (c .before .before .before .before .before .before .before .s2 .result) (sLayout (c .before .before .before .before .before .before .before .before .before .before .before .before .args .p)) (c .before .before .before .before .before .before .before .s2 .ensures) (drop 96 (c .before .before .before .before .before .before .before .before .before .before .before .before .args .key .now)) (part (secretParts (c .before .before .before .before .before .before .before .before .before .before .before .before .args .p)) 3 (c .before .before .before .before .before .before .before .before .before .before .before .before .args .key .now)) (c .before .before .before .before .before .before .before .before .before .before .before .before .args .work .now) (c .before .before .before .before .before .read-part .last .1 .1 .1 .1 .0) (c .before .before .before .before .before .read-part .result) (c .before .before .before .before .before .read-part .ensures) (part-s1 (c .before .before .before .before .before .before .before .before .before .before .before .before .args .p) (c .before .before .before .before .before .before .before .before .before .before .before .before .args .key .now)) _ (c .before .first .given .1) (Coefficient S1)), λ limit. refl)
 
 enum-told : tie.Need-enum-told
 enum-told c = search needs
 
--- src/sign.rt:65:46
 s-requires-3 : tie.Need-s-requires-3
 s-requires-3 c κs = search needs
 
--- src/sign.rt:65:65
 add-read-part : tie.Need-add-read-part
 add-read-part c = omega (arith, (sized (c .before .before .before .before .before .before .before .before .before .before .before .before .args .p) (c .before .before .before .before .before .before .before .before .before .before .before .before .pre .0 .0) (c .before .before .before .before .before .before .before .before .before .s .result) (sLayout (c .before .before .before .before .before .before .before .before .before .before .before .before .args .p)) (c .before .before .before .before .before .before .before .before .before .s .ensures) (s-readable (c .before .before .before .before .before .before .before .before .before .before .before .before .args .p) ((c .before .before .before .before .before .before .before .before .before .before .before .before .pre .0 .0) .good)) (c .before .before .before .before .before .before .before .before .size .result) (c .before .before .before .before .before .before .before .before .size .ensures)) .1)
 
--- src/sign.rt:65:9
 read-part-requires-2 : tie.Need-read-part-requires-2
 read-part-requires-2 c κs = (((c .before .before .before .before .before .before .before .before .before .before .before .before .before .pre .0 .0) .good, made-readable (c .before .before .before .before .before .before .before .before .before .before .before .before .before .args .p) (c .before .before .before .before .before .before .before .before .before .before .before .before .before .pre .0 .0) (c .before .s3 .result) (sLayout (c .before .before .before .before .before .before .before .before .before .before .before .before .before .args .p)) (c .before .s3 .ensures) (s-readable (c .before .before .before .before .before .before .before .before .before .before .before .before .before .args .p) ((c .before .before .before .before .before .before .before .before .before .before .before .before .before .pre .0 .0) .good))), (omega arith, within-room (c .before .before .before .before .before .before .before .before .before .before .before .before .before .args .p) (c .before .before .before .before .before .before .read-part .last .1 .1 .1 .1 .0) (room-kept (c .before .before .before .before .before .before .before .before .before .before .before .before .before .args .p) (c .before .before .before .before .before .before .before .before .before .before .before .before .before .args .work .now) (c .before .before .before .before .before .before .read-part .last .1 .1 .1 .1 .0) (c .before .before .before .before .before .before .before .before .before .before .before .before .before .pre .0 .1) ((read-s1 (c .before .before)) .2 .long)) 2 (omega arith), omega (arith, secret-total (c .before .before .before .before .before .before .before .before .before .before .before .before .before .args .p), secret-room (c .before .before .before .before .before .before .before .before .before .before .before .before .before .args .p) (c .before .before .before .before .before .before .before .before .before .before .before .before .before .pre .0 .0) .0, secret-room (c .before .before .before .before .before .before .before .before .before .before .before .before .before .args .p) (c .before .before .before .before .before .before .before .before .before .before .before .before .before .pre .0 .0) .1, c .before .before .before .before .before .before .before .before .before .before .before .before .before .pre .1, sized (c .before .before .before .before .before .before .before .before .before .before .before .before .before .args .p) (c .before .before .before .before .before .before .before .before .before .before .before .before .before .pre .0 .0) (c .before .s3 .result) (sLayout (c .before .before .before .before .before .before .before .before .before .before .before .before .before .args .p)) (c .before .s3 .ensures) (s-readable (c .before .before .before .before .before .before .before .before .before .before .before .before .before .args .p) ((c .before .before .before .before .before .before .before .before .before .before .before .before .before .pre .0 .0) .good)) _ refl .0, (sized (c .before .before .before .before .before .before .before .before .before .before .before .before .before .args .p) (c .before .before .before .before .before .before .before .before .before .before .before .before .before .pre .0 .0) (c .before .before .before .before .before .before .before .before .before .before .s .result) (sLayout (c .before .before .before .before .before .before .before .before .before .before .before .before .before .args .p)) (c .before .before .before .before .before .before .before .before .before .before .s .ensures) (s-readable (c .before .before .before .before .before .before .before .before .before .before .before .before .before .args .p) ((c .before .before .before .before .before .before .before .before .before .before .before .before .before .pre .0 .0) .good)) (c .before .before .before .before .before .before .before .before .before .size .result) (c .before .before .before .before .before .before .before .before .before .size .ensures)) .0), omega (arith, secret-total (c .before .before .before .before .before .before .before .before .before .before .before .before .before .args .p), secret-room (c .before .before .before .before .before .before .before .before .before .before .before .before .before .args .p) (c .before .before .before .before .before .before .before .before .before .before .before .before .before .pre .0 .0) .0, secret-room (c .before .before .before .before .before .before .before .before .before .before .before .before .before .args .p) (c .before .before .before .before .before .before .before .before .before .before .before .before .before .pre .0 .0) .1, c .before .before .before .before .before .before .before .before .before .before .before .before .before .pre .1)))
 
--- src/sign.rt:66:28
 enum-known-second : tie.Need-enum-known-second
 enum-known-second c = search needs
 
--- src/sign.rt:67:9
 same-length-2 : tie.Need-same-length-2
 same-length-2 c = search needs
 
--- src/sign.rt:67:9
 returns-2 : tie.Need-returns-2
 returns-2 c = (bad-s2 (c .before .before .before .before .before .before .before .before .before .before .before .before .before .before .before .before .before .before .before .args .p) (c .before .before .before .before .before .before .before .before .before .before .before .before .before .before .before .before .before .before .before .args .key .now) ((read-s1 (c .before .before .before .before .before .before .before .before)) .0) ((read-s1 (c .before .before .before .before .before .before .before .before)) .1 (Coefficient S1)) _ (part-bad (c .before .before .before .before .before .before .before .before .before .before .before .before .before .before .before .before .before .before .before .args .p) 2 (c .before .before .before .before .before .before .before .s3 .result) (sLayout (c .before .before .before .before .before .before .before .before .before .before .before .before .before .before .before .before .before .before .before .args .p)) (c .before .before .before .before .before .before .before .s3 .ensures) (drop (96 + c .before .before .before .before .before .before .before .before .before .before .before .before .before .before .before .size .result) (c .before .before .before .before .before .before .before .before .before .before .before .before .before .before .before .before .before .before .before .args .key .now)) (part (secretParts (c .before .before .before .before .before .before .before .before .before .before .before .before .before .before .before .before .before .before .before .args .p)) 4 (c .before .before .before .before .before .before .before .before .before .before .before .before .before .before .before .before .before .before .before .args .key .now)) (c .before .before .before .before .before .before .before .before .before .before .before .before .read-part .last .1 .1 .1 .1 .0) (c .before .before .before .before .before .read-part2 .last .1 .1 .1 .1 .0) (c .before .before .before .before .before .read-part2 .result) (c .before .before .before .before .before .read-part2 .ensures) (part-s2 (c .before .before .before .before .before .before .before .before .before .before .before .before .before .before .before .before .before .before .before .args .p) (c .before .before .before .before .before .before .before .before .before .before .before .before .before .before .before .before .before .before .before .args .key .now) (96 + c .before .before .before .before .before .before .before .before .before .before .before .before .before .before .before .size .result) (ap (λ (x : ℕ). 96 + x) ((sized (c .before .before .before .before .before .before .before .before .before .before .before .before .before .before .before .before .before .before .before .args .p) (c .before .before .before .before .before .before .before .before .before .before .before .before .before .before .before .before .before .before .before .pre .0 .0) (c .before .before .before .before .before .before .before .before .before .before .before .before .before .before .before .before .s .result) (sLayout (c .before .before .before .before .before .before .before .before .before .before .before .before .before .before .before .before .before .before .before .args .p)) (c .before .before .before .before .before .before .before .before .before .before .before .before .before .before .before .before .s .ensures) (s-readable (c .before .before .before .before .before .before .before .before .before .before .before .before .before .before .before .before .before .before .before .args .p) ((c .before .before .before .before .before .before .before .before .before .before .before .before .before .before .before .before .before .before .before .pre .0 .0) .good)) (c .before .before .before .before .before .before .before .before .before .before .before .before .before .before .before .size .result) (c .before .before .before .before .before .before .before .before .before .before .before .before .before .before .before .size .ensures)) .0))) _ (c .before .second .given .1) (Coefficient S2)), λ limit. refl)
 
 enum-told-2 : tie.Need-enum-told-2
 enum-told-2 c = search needs
 
--- src/sign.rt:69:45
 t0-requires : tie.Need-t0-requires
 t0-requires c κs = (c .before .before .before .before .before .before .before .before .before .before .before .before .before .before .before .before .before .before .pre .0 .0) .good
 
--- src/sign.rt:69:70
 mul-read-part : tie.Need-mul-read-part
 mul-read-part c = omega (arith, (sized (c .before .before .before .before .before .before .before .before .before .before .before .before .before .before .before .before .before .before .before .args .p) (c .before .before .before .before .before .before .before .before .before .before .before .before .before .before .before .before .before .before .before .pre .0 .0) (c .before .before .before .before .before .before .before .before .before .before .before .before .before .before .before .before .s .result) (sLayout (c .before .before .before .before .before .before .before .before .before .before .before .before .before .before .before .before .before .before .before .args .p)) (c .before .before .before .before .before .before .before .before .before .before .before .before .before .before .before .before .s .ensures) (s-readable (c .before .before .before .before .before .before .before .before .before .before .before .before .before .before .before .before .before .before .before .args .p) ((c .before .before .before .before .before .before .before .before .before .before .before .before .before .before .before .before .before .before .before .pre .0 .0) .good)) (c .before .before .before .before .before .before .before .before .before .before .before .before .before .before .before .size .result) (c .before .before .before .before .before .before .before .before .before .before .before .before .before .before .before .size .ensures)) .1)
 
--- src/sign.rt:69:65
 add-read-part-2 : tie.Need-add-read-part-2
 add-read-part-2 c = omega (arith, (sized (c .before .before .before .before .before .before .before .before .before .before .before .before .before .before .before .before .before .before .before .args .p) (c .before .before .before .before .before .before .before .before .before .before .before .before .before .before .before .before .before .before .before .pre .0 .0) (c .before .before .before .before .before .before .before .before .before .before .before .before .before .before .before .before .s .result) (sLayout (c .before .before .before .before .before .before .before .before .before .before .before .before .before .before .before .before .before .before .before .args .p)) (c .before .before .before .before .before .before .before .before .before .before .before .before .before .before .before .before .s .ensures) (s-readable (c .before .before .before .before .before .before .before .before .before .before .before .before .before .before .before .before .before .before .before .args .p) ((c .before .before .before .before .before .before .before .before .before .before .before .before .before .before .before .before .before .before .before .pre .0 .0) .good)) (c .before .before .before .before .before .before .before .before .before .before .before .before .before .before .before .size .result) (c .before .before .before .before .before .before .before .before .before .before .before .before .before .before .before .size .ensures)) .1)
 
--- src/sign.rt:69:9
 read-part-requires-3 : tie.Need-read-part-requires-3
 read-part-requires-3 c κs = (((c .before .before .before .before .before .before .before .before .before .before .before .before .before .before .before .before .before .before .before .before .pre .0 .0) .good, made-readable (c .before .before .before .before .before .before .before .before .before .before .before .before .before .before .before .before .before .before .before .before .args .p) (c .before .before .before .before .before .before .before .before .before .before .before .before .before .before .before .before .before .before .before .before .pre .0 .0) (c .before .t0 .result) (t0Layout (c .before .before .before .before .before .before .before .before .before .before .before .before .before .before .before .before .before .before .before .before .args .p)) (c .before .t0 .ensures) (t0-readable (c .before .before .before .before .before .before .before .before .before .before .before .before .before .before .before .before .before .before .before .before .args .p) ((c .before .before .before .before .before .before .before .before .before .before .before .before .before .before .before .before .before .before .before .before .pre .0 .0) .good))), (omega arith, within-room (c .before .before .before .before .before .before .before .before .before .before .before .before .before .before .before .before .before .before .before .before .args .p) (c .before .before .before .before .before .before .read-part2 .last .1 .1 .1 .1 .0) (room-kept (c .before .before .before .before .before .before .before .before .before .before .before .before .before .before .before .before .before .before .before .before .args .p) (c .before .before .before .before .before .before .before .before .before .before .before .before .before .read-part .last .1 .1 .1 .1 .0) (c .before .before .before .before .before .before .read-part2 .last .1 .1 .1 .1 .0) (room-kept (c .before .before .before .before .before .before .before .before .before .before .before .before .before .before .before .before .before .before .before .before .args .p) (c .before .before .before .before .before .before .before .before .before .before .before .before .before .before .before .before .before .before .before .before .args .work .now) (c .before .before .before .before .before .before .before .before .before .before .before .before .before .read-part .last .1 .1 .1 .1 .0) (c .before .before .before .before .before .before .before .before .before .before .before .before .before .before .before .before .before .before .before .before .pre .0 .1) ((read-s1 (c .before .before .before .before .before .before .before .before .before)) .2 .long)) ((read-s2 (c .before .before)) .2 .long)) 3 (omega arith), omega (arith, secret-total (c .before .before .before .before .before .before .before .before .before .before .before .before .before .before .before .before .before .before .before .before .args .p), secret-room (c .before .before .before .before .before .before .before .before .before .before .before .before .before .before .before .before .before .before .before .before .args .p) (c .before .before .before .before .before .before .before .before .before .before .before .before .before .before .before .before .before .before .before .before .pre .0 .0) .0, secret-room (c .before .before .before .before .before .before .before .before .before .before .before .before .before .before .before .before .before .before .before .before .args .p) (c .before .before .before .before .before .before .before .before .before .before .before .before .before .before .before .before .before .before .before .before .pre .0 .0) .1, c .before .before .before .before .before .before .before .before .before .before .before .before .before .before .before .before .before .before .before .before .pre .1, sized (c .before .before .before .before .before .before .before .before .before .before .before .before .before .before .before .before .before .before .before .before .args .p) (c .before .before .before .before .before .before .before .before .before .before .before .before .before .before .before .before .before .before .before .before .pre .0 .0) (c .before .t0 .result) (t0Layout (c .before .before .before .before .before .before .before .before .before .before .before .before .before .before .before .before .before .before .before .before .args .p)) (c .before .t0 .ensures) (t0-readable (c .before .before .before .before .before .before .before .before .before .before .before .before .before .before .before .before .before .before .before .before .args .p) ((c .before .before .before .before .before .before .before .before .before .before .before .before .before .before .before .before .before .before .before .before .pre .0 .0) .good)) _ refl .0, (sized (c .before .before .before .before .before .before .before .before .before .before .before .before .before .before .before .before .before .before .before .before .args .p) (c .before .before .before .before .before .before .before .before .before .before .before .before .before .before .before .before .before .before .before .before .pre .0 .0) (c .before .before .before .before .before .before .before .before .before .before .before .before .before .before .before .before .before .s .result) (sLayout (c .before .before .before .before .before .before .before .before .before .before .before .before .before .before .before .before .before .before .before .before .args .p)) (c .before .before .before .before .before .before .before .before .before .before .before .before .before .before .before .before .before .s .ensures) (s-readable (c .before .before .before .before .before .before .before .before .before .before .before .before .before .before .before .before .before .before .before .before .args .p) ((c .before .before .before .before .before .before .before .before .before .before .before .before .before .before .before .before .before .before .before .before .pre .0 .0) .good)) (c .before .before .before .before .before .before .before .before .before .before .before .before .before .before .before .before .size .result) (c .before .before .before .before .before .before .before .before .before .before .before .before .before .before .before .before .size .ensures)) .0), omega (arith, secret-total (c .before .before .before .before .before .before .before .before .before .before .before .before .before .before .before .before .before .before .before .before .args .p), secret-room (c .before .before .before .before .before .before .before .before .before .before .before .before .before .before .before .before .before .before .before .before .args .p) (c .before .before .before .before .before .before .before .before .before .before .before .before .before .before .before .before .before .before .before .before .pre .0 .0) .0, secret-room (c .before .before .before .before .before .before .before .before .before .before .before .before .before .before .before .before .before .before .before .before .args .p) (c .before .before .before .before .before .before .before .before .before .before .before .before .before .before .before .before .before .before .before .before .pre .0 .0) .1, c .before .before .before .before .before .before .before .before .before .before .before .before .before .before .before .before .before .before .before .before .pre .1)))
 
--- src/sign.rt:70:28
 enum-known-third : tie.Need-enum-known-third
 enum-known-third c = search needs
 
--- src/sign.rt:71:9
 same-length-3 : tie.Need-same-length-3
 same-length-3 c = search needs
 
--- src/sign.rt:71:9
 returns-3 : tie.Need-returns-3
 returns-3 c = (bad-t0 (c .before .before .before .before .before .before .before .before .before .before .before .before .before .before .before .before .before .before .before .before .before .before .before .before .before .before .args .p) (c .before .before .before .before .before .before .before .before .before .before .before .before .before .before .before .before .before .before .before .before .before .before .before .before .before .before .args .key .now) ((read-s1 (c .before .before .before .before .before .before .before .before .before .before .before .before .before .before .before)) .0) ((read-s1 (c .before .before .before .before .before .before .before .before .before .before .before .before .before .before .before)) .1 (Coefficient S1)) ((read-s2 (c .before .before .before .before .before .before .before .before)) .0) ((read-s2 (c .before .before .before .before .before .before .before .before)) .1 (Coefficient S2)) _ (part-bad (c .before .before .before .before .before .before .before .before .before .before .before .before .before .before .before .before .before .before .before .before .before .before .before .before .before .before .args .p) 3 (c .before .before .before .before .before .before .before .t0 .result) (t0Layout (c .before .before .before .before .before .before .before .before .before .before .before .before .before .before .before .before .before .before .before .before .before .before .before .before .before .before .args .p)) (c .before .before .before .before .before .before .before .t0 .ensures) (drop (96 + 2 * c .before .before .before .before .before .before .before .before .before .before .before .before .before .before .before .before .before .before .before .before .before .before .size .result) (c .before .before .before .before .before .before .before .before .before .before .before .before .before .before .before .before .before .before .before .before .before .before .before .before .before .before .args .key .now)) (part (secretParts (c .before .before .before .before .before .before .before .before .before .before .before .before .before .before .before .before .before .before .before .before .before .before .before .before .before .before .args .p)) 5 (c .before .before .before .before .before .before .before .before .before .before .before .before .before .before .before .before .before .before .before .before .before .before .before .before .before .before .args .key .now)) (c .before .before .before .before .before .before .before .before .before .before .before .before .read-part2 .last .1 .1 .1 .1 .0) (c .before .before .before .before .before .read-part3 .last .1 .1 .1 .1 .0) (c .before .before .before .before .before .read-part3 .result) (c .before .before .before .before .before .read-part3 .ensures) (part-t0 (c .before .before .before .before .before .before .before .before .before .before .before .before .before .before .before .before .before .before .before .before .before .before .before .before .before .before .args .p) (c .before .before .before .before .before .before .before .before .before .before .before .before .before .before .before .before .before .before .before .before .before .before .before .before .before .before .args .key .now) (96 + 2 * c .before .before .before .before .before .before .before .before .before .before .before .before .before .before .before .before .before .before .before .before .before .before .size .result) (ap (λ (x : ℕ). 96 + 2 * x) ((sized (c .before .before .before .before .before .before .before .before .before .before .before .before .before .before .before .before .before .before .before .before .before .before .before .before .before .before .args .p) (c .before .before .before .before .before .before .before .before .before .before .before .before .before .before .before .before .before .before .before .before .before .before .before .before .before .before .pre .0 .0) (c .before .before .before .before .before .before .before .before .before .before .before .before .before .before .before .before .before .before .before .before .before .before .before .s .result) (sLayout (c .before .before .before .before .before .before .before .before .before .before .before .before .before .before .before .before .before .before .before .before .before .before .before .before .before .before .args .p)) (c .before .before .before .before .before .before .before .before .before .before .before .before .before .before .before .before .before .before .before .before .before .before .before .s .ensures) (s-readable (c .before .before .before .before .before .before .before .before .before .before .before .before .before .before .before .before .before .before .before .before .before .before .before .before .before .before .args .p) ((c .before .before .before .before .before .before .before .before .before .before .before .before .before .before .before .before .before .before .before .before .before .before .before .before .before .before .pre .0 .0) .good)) (c .before .before .before .before .before .before .before .before .before .before .before .before .before .before .before .before .before .before .before .before .before .before .size .result) (c .before .before .before .before .before .before .before .before .before .before .before .before .before .before .before .before .before .before .before .before .before .before .size .ensures)) .0))) _ (c .before .third .given .1) (Coefficient T0)), λ limit. refl)
 
 enum-told-3 : tie.Need-enum-told-3
 enum-told-3 c = search needs
 
--- src/sign.rt:73:42
 slice-aggregate-fill-a : tie.Need-slice-aggregate-fill-a
 slice-aggregate-fill-a c = sym (length-take-le 32 (c .before .before .before .before .before .before .before .before .before .before .before .before .before .before .before .before .before .before .before .before .before .before .before .before .before .before .args .key .now) (omega (arith, secret-total (c .before .before .before .before .before .before .before .before .before .before .before .before .before .before .before .before .before .before .before .before .before .before .before .before .before .before .args .p), secret-room (c .before .before .before .before .before .before .before .before .before .before .before .before .before .before .before .before .before .before .before .before .before .before .before .before .before .before .args .p) (c .before .before .before .before .before .before .before .before .before .before .before .before .before .before .before .before .before .before .before .before .before .before .before .before .before .before .pre .0 .0) .0, secret-room (c .before .before .before .before .before .before .before .before .before .before .before .before .before .before .before .before .before .before .before .before .before .before .before .before .before .before .args .p) (c .before .before .before .before .before .before .before .before .before .before .before .before .before .before .before .before .before .before .before .before .before .before .before .before .before .before .pre .0 .0) .1, c .before .before .before .before .before .before .before .before .before .before .before .before .before .before .before .before .before .before .before .before .before .before .before .before .before .before .pre .1)))
 
--- src/sign.rt:73:24
 fill-a-requires : tie.Need-fill-a-requires
 fill-a-requires c κs = ((c .before .before .before .before .before .before .before .before .before .before .before .before .before .before .before .before .before .before .before .before .before .before .before .before .before .before .before .pre .0 .0), (omega arith, within-room (c .before .before .before .before .before .before .before .before .before .before .before .before .before .before .before .before .before .before .before .before .before .before .before .before .before .before .before .args .p) (c .before .before .before .before .before .before .read-part3 .last .1 .1 .1 .1 .0) (room-kept (c .before .before .before .before .before .before .before .before .before .before .before .before .before .before .before .before .before .before .before .before .before .before .before .before .before .before .before .args .p) (c .before .before .before .before .before .before .before .before .before .before .before .before .before .read-part2 .last .1 .1 .1 .1 .0) (c .before .before .before .before .before .before .read-part3 .last .1 .1 .1 .1 .0) (room-kept (c .before .before .before .before .before .before .before .before .before .before .before .before .before .before .before .before .before .before .before .before .before .before .before .before .before .before .before .args .p) (c .before .before .before .before .before .before .before .before .before .before .before .before .before .before .before .before .before .before .before .before .read-part .last .1 .1 .1 .1 .0) (c .before .before .before .before .before .before .before .before .before .before .before .before .before .read-part2 .last .1 .1 .1 .1 .0) (room-kept (c .before .before .before .before .before .before .before .before .before .before .before .before .before .before .before .before .before .before .before .before .before .before .before .before .before .before .before .args .p) (c .before .before .before .before .before .before .before .before .before .before .before .before .before .before .before .before .before .before .before .before .before .before .before .before .before .before .before .args .work .now) (c .before .before .before .before .before .before .before .before .before .before .before .before .before .before .before .before .before .before .before .before .read-part .last .1 .1 .1 .1 .0) (c .before .before .before .before .before .before .before .before .before .before .before .before .before .before .before .before .before .before .before .before .before .before .before .before .before .before .before .pre .0 .1) ((read-s1 (c .before .before .before .before .before .before .before .before .before .before .before .before .before .before .before .before)) .2 .long)) ((read-s2 (c .before .before .before .before .before .before .before .before .before)) .2 .long)) ((read-t0 (c .before .before)) .2 .long)) 0 (omega arith)))
 
 enum-told-4 : tie.Need-enum-told-4
 enum-told-4 c = search needs
 
--- src/sign.rt:74:32
 enum-told-5 : tie.Need-enum-told-5
 enum-told-5 c = search needs
 
--- src/sign.rt:74:9
 same-length-4 : tie.Need-same-length-4
 same-length-4 c = search needs
 
--- src/sign.rt:74:9
 returns-4 : tie.Need-returns-4
 returns-4 c = (dry-a (c .before .before .before .before .before .before .before .before .before .before .before .before .before .before .before .before .before .before .before .before .before .before .before .before .before .before .before .before .before .before .before .before .args .p) (c .before .before .before .before .before .before .before .before .before .before .before .before .before .before .before .before .before .before .before .before .before .before .before .before .before .before .before .before .before .before .before .before .args .key .now) ((read-s1 (c .before .before .before .before .before .before .before .before .before .before .before .before .before .before .before .before .before .before .before .before .before)) .0) ((read-s1 (c .before .before .before .before .before .before .before .before .before .before .before .before .before .before .before .before .before .before .before .before .before)) .1 (Coefficient S1)) ((read-s2 (c .before .before .before .before .before .before .before .before .before .before .before .before .before .before)) .0) ((read-s2 (c .before .before .before .before .before .before .before .before .before .before .before .before .before .before)) .1 (Coefficient S2)) ((read-t0 (c .before .before .before .before .before .before .before)) .0) ((read-t0 (c .before .before .before .before .before .before .before)) .1 (Coefficient T0)) (filled-dry (c .before .before .before .before .before .before .before .before .before .before .before .before .before .before .before .before .before .before .before .before .before .before .before .before .before .before .before .before .before .before .before .before .args .p) 0 (expandA (c .before .before .before .before .before .before .before .before .before .before .before .before .before .before .before .before .before .before .before .before .before .before .before .before .before .before .before .before .before .before .before .before .args .p) shake256 (take 32 (c .before .before .before .before .before .before .before .before .before .before .before .before .before .before .before .before .before .before .before .before .before .before .before .before .before .before .before .before .before .before .before .before .args .key .now))) (c .before .before .before .before .before .before .before .before .before .before .before .read-part3 .last .1 .1 .1 .1 .0) (c .before .before .before .before .fill-a .last .1 .1 .0) (c .before .before .before .before .fill-a .result) (c .enum-told5 .given .1) (c .before .before .before .before .fill-a .ensures) .0), λ limit. refl)
 
--- src/sign.rt:55:1
 same-length-5 : tie.Need-same-length-5
 same-length-5 c = search needs
 
--- src/sign.rt:55:1
 returns-5 : tie.Need-returns-5
 returns-5 c = (stored c .4, λ M ρ. read-all (c .before .before .before .before .before .before .before .before .before .before .before .before .before .before .before .before .before .before .before .before .before .before .before .before .before .before .before .before .before .before .before .before .args .p) (c .before .before .before .before .before .before .before .before .before .before .before .before .before .before .before .before .before .before .before .before .before .before .before .before .before .before .before .before .before .before .before .before .args .key .now) ((read-s1 (c .before .before .before .before .before .before .before .before .before .before .before .before .before .before .before .before .before .before .before .before .before)) .0) ((read-s1 (c .before .before .before .before .before .before .before .before .before .before .before .before .before .before .before .before .before .before .before .before .before)) .1 (Coefficient S1)) ((read-s2 (c .before .before .before .before .before .before .before .before .before .before .before .before .before .before)) .0) ((read-s2 (c .before .before .before .before .before .before .before .before .before .before .before .before .before .before)) .1 (Coefficient S2)) ((read-t0 (c .before .before .before .before .before .before .before)) .0) ((read-t0 (c .before .before .before .before .before .before .before)) .1 (Coefficient T0)) ((drew-a c) .0) ((drew-a c) .1) M ρ ∙ ap done (signer c (muOf (trinomial (c .before .before .before .before .before .before .before .before .before .before .before .before .before .before .before .before .before .before .before .before .before .before .before .before .before .before .before .before .before .before .before .before .args .p)) shake256 (c .before .before .before .before .before .before .before .before .before .before .before .before .before .before .before .before .before .before .before .before .before .before .before .before .before .before .before .before .before .before .before .before .args .key .now) M) ρ))
 

@@ -1,49 +1,32 @@
-use Rattle.signing.proofs.Sizes.{asks-size, sized, made-readable, made-holds, secret-total, signature-total, signature-written}
-use Rattle.packing.proofs.Room.{s-readable, t0-readable, z-readable, hint-readable}
-use Rattle.packing.specs.Layouts.{sLayout, t0Layout, zLayout, hintLayout}
-use lib.ListN.{length}
+use Rattle.signing.proofs.Sizes.{asks-size, sized, secret-total}
+use Rattle.packing.proofs.Room.{s-readable, t0-readable}
+use Rattle.packing.specs.Layouts.{sLayout, t0Layout}
 use native.Mathlib.Omega.{arith}
-use Prim.Native.Nat.{ℕ}
-use mathlib.Core.List.{List}
-use mathlib.Core.Path.{_≡_, refl, sym, ap, subst, _∙_}
 use borrow.Author.Needs.{needs}
 use Rattle.signing.proofs.sign.secret_size.Statement.{statement}
 use Rattle.signing.proofs.sign.secret_size.Tie as tie
-use Rattle.signing.proofs.sign.secret_size.Reads as reads
-use Rattle.signing.proofs.sign.secret_size.Lts as lts
-use Rattle.packing.proofs.layout.Layout.s.Reads as s-reads
-use Rattle.packing.proofs.layout.Layout.size.Reads as size-reads
-use Rattle.packing.proofs.layout.Layout.t0.Reads as t0-reads
 
--- src/sign.rt:43:13
 s-requires : tie.Need-s-requires
 s-requires c κs = search needs
 
--- src/sign.rt:43:9
 size-requires : tie.Need-size-requires
 size-requires c κs = asks-size (c .before .args .p) (c .before .pre) (c .s .result) (sLayout (c .before .args .p)) (c .s .ensures) (s-readable (c .before .args .p) (c .before .pre .good))
 
--- src/sign.rt:44:10
 mul-result : tie.Need-mul-result
 mul-result c = let a = sized (c .before .before .args .p) (c .before .before .pre) (c .before .s .result) (sLayout (c .before .before .args .p)) (c .before .s .ensures) (s-readable (c .before .before .args .p) (c .before .before .pre .good)) (c .size .result) (c .size .ensures) in omega (arith, a .1)
 
--- src/sign.rt:44:5
 add-result : tie.Need-add-result
 add-result c = let a = sized (c .before .before .args .p) (c .before .before .pre) (c .before .s .result) (sLayout (c .before .before .args .p)) (c .before .s .ensures) (s-readable (c .before .before .args .p) (c .before .before .pre .good)) (c .size .result) (c .size .ensures) in omega (arith, a .1)
 
--- src/sign.rt:44:18
 t0-requires : tie.Need-t0-requires
 t0-requires c κs = search needs
 
--- src/sign.rt:44:18
 size-requires-2 : tie.Need-size-requires-2
 size-requires-2 c κs = asks-size (c .before .before .before .args .p) (c .before .before .before .pre) (c .t0 .result) (t0Layout (c .before .before .before .args .p)) (c .t0 .ensures) (t0-readable (c .before .before .before .args .p) (c .before .before .before .pre .good))
 
--- src/sign.rt:44:5
 add-result-2 : tie.Need-add-result-2
 add-result-2 c = let a = sized (c .before .before .before .before .args .p) (c .before .before .before .before .pre) (c .before .before .before .s .result) (sLayout (c .before .before .before .before .args .p)) (c .before .before .before .s .ensures) (s-readable (c .before .before .before .before .args .p) (c .before .before .before .before .pre .good)) (c .before .before .size .result) (c .before .before .size .ensures) in let b = sized (c .before .before .before .before .args .p) (c .before .before .before .before .pre) (c .before .t0 .result) (t0Layout (c .before .before .before .before .args .p)) (c .before .t0 .ensures) (t0-readable (c .before .before .before .before .args .p) (c .before .before .before .before .pre .good)) (c .size2 .result) (c .size2 .ensures) in omega (arith, a .1, b .1)
 
--- src/sign.rt:39:1
 returns : tie.Need-returns
 returns c = let a = sized (c .before .before .before .before .args .p) (c .before .before .before .before .pre) (c .before .before .before .s .result) (sLayout (c .before .before .before .before .args .p)) (c .before .before .before .s .ensures) (s-readable (c .before .before .before .before .args .p) (c .before .before .before .before .pre .good)) (c .before .before .size .result) (c .before .before .size .ensures) in let b = sized (c .before .before .before .before .args .p) (c .before .before .before .before .pre) (c .before .t0 .result) (t0Layout (c .before .before .before .before .args .p)) (c .before .t0 .ensures) (t0-readable (c .before .before .before .before .args .p) (c .before .before .before .before .pre .good)) (c .size2 .result) (c .size2 .ensures) in omega (arith, a .0, b .0, secret-total (c .before .before .before .before .args .p))
 

@@ -1,85 +1,62 @@
-use mathlib.Core.Path.{_≡_, refl, sym, ap, _∙_}
-use mathlib.Core.List.{List}
-use Prim.Native.Nat.{ℕ, _+_}
+use mathlib.Core.Path.{refl, _∙_}
 use native.Mathlib.Omega.{arith}
 use borrow.Author.Needs.{needs}
 use Rattle.sets.specs.declared.refusal.Refusal.the-variants.{Spent}
-use Rattle.signing.specs.Stages.{signerIn, Passes}
+use Rattle.signing.specs.Stages.{signerIn}
 use Rattle.signing.specs.Calls.{signedFrom}
 use Rattle.signing.proofs.Trying.{room-kept}
 use Rattle.signing.proofs.Outcomes.{refuses, signs, key-good, from-bad, from-is, found-spent, found-passed, asks-write, is-signature}
 use Rattle.signing.proofs.sign.sign_from.Statement.{statement}
 use Rattle.signing.proofs.sign.sign_from.Tie as tie
-use Rattle.signing.proofs.sign.sign_from.Reads as reads
-use Rattle.signing.proofs.sign.sign_from.Lts as lts
-use Rattle.signing.proofs.sign.read_key.Reads as read-key-reads
-use Rattle.signing.proofs.sign.write_signature.Reads as write-signature-reads
-use Rattle.signing.proofs.tries.first_passing.Reads as first-passing-reads
 
--- src/sign.rt:98:9
 read-key-requires : tie.Need-read-key-requires
 read-key-requires c κs = search needs
 
--- src/sign.rt:99:28
 enum-known-read : tie.Need-enum-known-read
 enum-known-read c = search needs
 
--- src/sign.rt:100:9
 same-length : tie.Need-same-length
 same-length c = search needs
 
--- src/sign.rt:100:9
 returns : tie.Need-returns
 returns c = λ M e. from-bad (c .before .before .before .before .before .before .before .before .before .before .before .before .before .args .p) (c .before .before .before .before .before .before .before .before .before .before .before .before .before .args .key .now) (c .before .before .before .before .before .read-key .last .1 .1 .0) (c .before .before .before .before .before .read-key .result) (c .before .before .before .before .before .read-key .ensures) _ (c .before .read .given .1) (c .before .before .before .before .before .before .before .before .before .before .before .before .before .args .limit) M (c .before .before .before .before .before .before .before .before .before .before .before .before .before .args .rho .now) (c .before .before .before .before .before .before .before .before .before .before .before .before .before .args .signature .now)
 
 enum-told : tie.Need-enum-told
 enum-told c = search needs
 
--- src/sign.rt:102:9
 first-passing-requires : tie.Need-first-passing-requires
 first-passing-requires c κs = (((c .before .before .before .before .before .before .before .before .before .before .before .before .before .before .pre .0 .0), key-good (c .before .before .before .before .before .before .before .before .before .before .before .before .before .before .args .p) (c .before .before .before .before .before .before .before .before .before .before .before .before .before .before .args .key .now) (c .before .before .before .before .before .before .read-key .last .1 .1 .0) (c .before .before .before .before .before .before .read-key .result) (c .before .before .before .before .before .before .read-key .ensures) (c .before .before .enum-told .given .1) .0), (c .before .before .before .before .before .before .before .before .before .before .before .before .before .before .pre .1 .2, c .before .before .before .before .before .before .before .before .before .before .before .before .before .before .pre .1 .3))
 
--- src/sign.rt:104:42
 enum-told-2 : tie.Need-enum-told-2
 enum-told-2 c = search needs
 
--- src/sign.rt:105:23
 enum-known-found : tie.Need-enum-known-found
 enum-known-found c = search needs
 
--- src/sign.rt:106:13
 write-signature-requires : tie.Need-write-signature-requires
 write-signature-requires c κs = let F = (found-passed (c .before .before .before .before .before .before .before .before .before .before .before .before .before .before .before .before .before .before .before .before .before .before .before .before .before .args .p) (signerIn (c .before .before .before .before .before .before .before .before .before .before .before .before .before .before .before .before .before .before .before .before .before .before .before .before .before .args .p) (c .before .before .before .before .before .before .before .before .before .before .before .before .before .before .before .before .before .read-key .last .1 .1 .0) (c .before .before .before .before .before .before .before .before .before .before .before .before .before .before .before .before .before .before .before .before .before .before .before .before .before .args .mu .now) (c .before .before .before .before .before .before .before .before .before .before .before .before .before .before .before .before .before .before .before .before .before .before .before .before .before .args .rho .now)) (c .before .before .before .before .before .before .before .before .before .before .before .before .before .before .before .before .before .before .before .before .before .before .before .before .before .args .limit) (c .before .before .before .before .before .before .before .before .before .before .first-passing .result) (c .before .before .before .before .before .before .before .before .before .before .first-passing .last .1 .1 .1 .1 .0) (c .before .before .before .before .before .before .before .before .before .before .first-passing .last .1 .1 .1 .1 .1 .0) (c .before .before .before .before .before .before .before .before .before .before .first-passing .ensures) _ (c .before .before .before .before .found .given .1)) in let a = asks-write (c .before .before .before .before .before .before .before .before .before .before .before .before .before .before .before .before .before .before .before .before .before .before .before .before .before .args .p) (c .before .before .before .before .before .before .before .before .before .before .before .before .before .before .before .before .before .before .before .before .before .before .before .before .before .pre .0 .0) (signerIn (c .before .before .before .before .before .before .before .before .before .before .before .before .before .before .before .before .before .before .before .before .before .before .before .before .before .args .p) (c .before .before .before .before .before .before .before .before .before .before .before .before .before .before .before .before .before .read-key .last .1 .1 .0) (c .before .before .before .before .before .before .before .before .before .before .before .before .before .before .before .before .before .before .before .before .before .before .before .before .before .args .mu .now) (c .before .before .before .before .before .before .before .before .before .before .before .before .before .before .before .before .before .before .before .before .before .before .before .before .before .args .rho .now)) (c .before .before .before .before .before .before .before .before .before .before .before .before .before .before .before .before .before .before .before .before .before .before .before .before .before .args .limit) _ (c .before .before .before .before .before .before .before .before .before .before .first-passing .last .1 .1 .1 .1 .0) (c .before .before .before .before .before .before .before .before .before .before .first-passing .last .1 .1 .1 .1 .1 .0) F (room-kept (c .before .before .before .before .before .before .before .before .before .before .before .before .before .before .before .before .before .before .before .before .before .before .before .before .before .args .p) (c .before .before .before .before .before .before .before .before .before .before .before .before .before .before .before .before .before .read-key .last .1 .1 .0) (c .before .before .before .before .before .before .before .before .before .before .first-passing .last .1 .1 .1 .1 .0) (key-good (c .before .before .before .before .before .before .before .before .before .before .before .before .before .before .before .before .before .before .before .before .before .before .before .before .before .args .p) (c .before .before .before .before .before .before .before .before .before .before .before .before .before .before .before .before .before .before .before .before .before .before .before .before .before .args .key .now) (c .before .before .before .before .before .before .before .before .before .before .before .before .before .before .before .before .before .read-key .last .1 .1 .0) (c .before .before .before .before .before .before .before .before .before .before .before .before .before .before .before .before .before .read-key .result) (c .before .before .before .before .before .before .before .before .before .before .before .before .before .before .before .before .before .read-key .ensures) (c .before .before .before .before .before .before .before .before .before .before .before .before .before .enum-told .given .1) .0 .room) (c .before .before .before .before .before .before .before .before .before .before .first-passing .kept .1 .1 .1 .1 .0)) in (((c .before .before .before .before .before .before .before .before .before .before .before .before .before .before .before .before .before .before .before .before .before .before .before .before .before .pre .0 .0), a .0), ((c .before .before .before .before .before .before .before .before .before .before .first-passing .kept .1 .1 .1 .1 .1 .0 ∙ c .before .before .before .before .before .before .before .before .before .before .before .before .before .before .before .before .before .before .before .before .before .before .before .before .before .pre .1 .3, c .before .before .before .before .before .before .before .before .before .before .before .before .before .before .before .before .before .before .before .before .before .before .before .before .before .pre .1 .1), a .1))
 
--- src/sign.rt:107:29
 add-t28 : tie.Need-add-t28
 add-t28 c = let F = (found-passed (c .before .before .before .before .before .before .before .before .before .before .before .before .before .before .before .before .before .before .before .before .before .before .before .before .before .before .before .before .args .p) (signerIn (c .before .before .before .before .before .before .before .before .before .before .before .before .before .before .before .before .before .before .before .before .before .before .before .before .before .before .before .before .args .p) (c .before .before .before .before .before .before .before .before .before .before .before .before .before .before .before .before .before .before .before .before .read-key .last .1 .1 .0) (c .before .before .before .before .before .before .before .before .before .before .before .before .before .before .before .before .before .before .before .before .before .before .before .before .before .before .before .before .args .mu .now) (c .before .before .before .before .before .before .before .before .before .before .before .before .before .before .before .before .before .before .before .before .before .before .before .before .before .before .before .before .args .rho .now)) (c .before .before .before .before .before .before .before .before .before .before .before .before .before .before .before .before .before .before .before .before .before .before .before .before .before .before .before .before .args .limit) (c .before .before .before .before .before .before .before .before .before .before .before .before .before .first-passing .result) (c .before .before .before .before .before .before .before .before .before .before .before .before .before .first-passing .last .1 .1 .1 .1 .0) (c .before .before .before .before .before .before .before .before .before .before .before .before .before .first-passing .last .1 .1 .1 .1 .1 .0) (c .before .before .before .before .before .before .before .before .before .before .before .before .before .first-passing .ensures) _ (c .before .before .before .before .before .before .before .found .given .1)) in omega (arith, F .below, c .before .before .before .before .before .before .before .before .before .before .before .before .before .before .before .before .before .before .before .before .before .before .before .before .before .before .before .before .pre .1 .2)
 
--- src/sign.rt:93:1
 same-length-2 : tie.Need-same-length-2
 same-length-2 c = search needs
 
--- src/sign.rt:93:1
 same-length-3 : tie.Need-same-length-3
 same-length-3 c = search needs
 
--- src/sign.rt:93:1
 returns-2 : tie.Need-returns-2
 returns-2 c = λ M e. refuses (c .before .before .before .before .before .before .before .before .before .before .before .before .before .before .before .before .before .before .before .before .before .args .limit) (signedFrom (c .before .before .before .before .before .before .before .before .before .before .before .before .before .before .before .before .before .before .before .before .before .args .p) (c .before .before .before .before .before .before .before .before .before .before .before .before .before .before .before .before .before .before .before .before .before .args .key .now) M (c .before .before .before .before .before .before .before .before .before .before .before .before .before .before .before .before .before .before .before .before .before .args .rho .now) (c .before .before .before .before .before .before .before .before .before .before .before .before .before .before .before .before .before .before .before .before .before .args .limit)) Spent (c .before .before .before .before .before .before .before .before .before .before .before .before .before .before .before .before .before .before .before .before .before .args .limit) (c .before .before .before .before .before .before .before .before .before .before .before .before .before .before .before .before .before .before .before .before .before .args .signature .now) (from-is (c .before .before .before .before .before .before .before .before .before .before .before .before .before .before .before .before .before .before .before .before .before .args .p) (c .before .before .before .before .before .before .before .before .before .before .before .before .before .before .before .before .before .before .before .before .before .args .key .now) (c .before .before .before .before .before .before .before .before .before .before .before .before .before .read-key .last .1 .1 .0) (c .before .before .before .before .before .before .before .before .before .before .before .before .before .read-key .result) (c .before .before .before .before .before .before .before .before .before .before .before .before .before .read-key .ensures) (c .before .before .before .before .before .before .before .before .before .enum-told .given .1) (c .before .before .before .before .before .before .before .before .before .before .before .before .before .before .before .before .before .before .before .before .before .args .limit) M (c .before .before .before .before .before .before .before .before .before .before .before .before .before .before .before .before .before .before .before .before .before .args .mu .now) (c .before .before .before .before .before .before .before .before .before .before .before .before .before .before .before .before .before .before .before .before .before .args .rho .now) e ∙ found-spent (c .before .before .before .before .before .before .before .before .before .before .before .before .before .before .before .before .before .before .before .before .before .args .p) (signerIn (c .before .before .before .before .before .before .before .before .before .before .before .before .before .before .before .before .before .before .before .before .before .args .p) (c .before .before .before .before .before .before .before .before .before .before .before .before .before .read-key .last .1 .1 .0) (c .before .before .before .before .before .before .before .before .before .before .before .before .before .before .before .before .before .before .before .before .before .args .mu .now) (c .before .before .before .before .before .before .before .before .before .before .before .before .before .before .before .before .before .before .before .before .before .args .rho .now)) (c .before .before .before .before .before .before .before .before .before .before .before .before .before .before .before .before .before .before .before .before .before .args .limit) (c .before .before .before .before .before .before .first-passing .result) (c .before .before .before .before .before .before .first-passing .last .1 .1 .1 .1 .0) (c .before .before .before .before .before .before .first-passing .last .1 .1 .1 .1 .1 .0) (c .before .before .before .before .before .before .first-passing .ensures) (c .enum-told2 .given .1)) refl
 
--- src/sign.rt:93:1
 same-length-4 : tie.Need-same-length-4
 same-length-4 c = search needs
 
--- src/sign.rt:93:1
 same-length-5 : tie.Need-same-length-5
 same-length-5 c = search needs
 
--- src/sign.rt:93:1
 same-length-6 : tie.Need-same-length-6
 same-length-6 c = search needs
 
--- src/sign.rt:93:1
 returns-3 : tie.Need-returns-3
 returns-3 c = λ M e. let F = (found-passed (c .before .before .before .before .before .before .before .before .before .before .before .before .before .before .before .before .before .before .before .before .before .before .before .before .before .before .before .before .args .p) (signerIn (c .before .before .before .before .before .before .before .before .before .before .before .before .before .before .before .before .before .before .before .before .before .before .before .before .before .before .before .before .args .p) (c .before .before .before .before .before .before .before .before .before .before .before .before .before .before .before .before .before .before .before .before .read-key .last .1 .1 .0) (c .before .before .before .before .before .before .before .before .before .before .before .before .before .before .before .before .before .before .before .before .before .before .before .before .before .before .before .before .args .mu .now) (c .before .before .before .before .before .before .before .before .before .before .before .before .before .before .before .before .before .before .before .before .before .before .before .before .before .before .before .before .args .rho .now)) (c .before .before .before .before .before .before .before .before .before .before .before .before .before .before .before .before .before .before .before .before .before .before .before .before .before .before .before .before .args .limit) (c .before .before .before .before .before .before .before .before .before .before .before .before .before .first-passing .result) (c .before .before .before .before .before .before .before .before .before .before .before .before .before .first-passing .last .1 .1 .1 .1 .0) (c .before .before .before .before .before .before .before .before .before .before .before .before .before .first-passing .last .1 .1 .1 .1 .1 .0) (c .before .before .before .before .before .before .before .before .before .before .before .before .before .first-passing .ensures) _ (c .before .before .before .before .before .before .before .found .given .1)) in signs (c .before .before .before .before .before .before .before .before .before .before .before .before .before .before .before .before .before .before .before .before .before .before .before .before .before .before .before .before .args .limit) (signedFrom (c .before .before .before .before .before .before .before .before .before .before .before .before .before .before .before .before .before .before .before .before .before .before .before .before .before .before .before .before .args .p) (c .before .before .before .before .before .before .before .before .before .before .before .before .before .before .before .before .before .before .before .before .before .before .before .before .before .before .before .before .args .key .now) M (c .before .before .before .before .before .before .before .before .before .before .before .before .before .before .before .before .before .before .before .before .before .before .before .before .before .before .before .before .args .rho .now) (c .before .before .before .before .before .before .before .before .before .before .before .before .before .before .before .before .before .before .before .before .before .before .before .before .before .before .before .before .args .limit)) _ _ (c .before .before .before .before .before .before .before .before .before .before .before .before .before .before .before .before .before .before .before .before .before .before .before .before .before .before .before .before .args .signature .now) _ (from-is (c .before .before .before .before .before .before .before .before .before .before .before .before .before .before .before .before .before .before .before .before .before .before .before .before .before .before .before .before .args .p) (c .before .before .before .before .before .before .before .before .before .before .before .before .before .before .before .before .before .before .before .before .before .before .before .before .before .before .before .before .args .key .now) (c .before .before .before .before .before .before .before .before .before .before .before .before .before .before .before .before .before .before .before .before .read-key .last .1 .1 .0) (c .before .before .before .before .before .before .before .before .before .before .before .before .before .before .before .before .before .before .before .before .read-key .result) (c .before .before .before .before .before .before .before .before .before .before .before .before .before .before .before .before .before .before .before .before .read-key .ensures) (c .before .before .before .before .before .before .before .before .before .before .before .before .before .before .before .before .enum-told .given .1) (c .before .before .before .before .before .before .before .before .before .before .before .before .before .before .before .before .before .before .before .before .before .before .before .before .before .before .before .before .args .limit) M (c .before .before .before .before .before .before .before .before .before .before .before .before .before .before .before .before .before .before .before .before .before .before .before .before .before .before .before .before .args .mu .now) (c .before .before .before .before .before .before .before .before .before .before .before .before .before .before .before .before .before .before .before .before .before .before .before .before .before .before .before .before .args .rho .now) e ∙ F .found) (is-signature (c .before .before .before .before .before .before .before .before .before .before .before .before .before .before .before .before .before .before .before .before .before .before .before .before .before .before .before .before .args .p) (c .before .before .before .before .before .before .before .before .before .before .before .before .before .before .before .before .before .before .before .before .before .before .before .before .before .before .before .before .pre .0 .0) (signerIn (c .before .before .before .before .before .before .before .before .before .before .before .before .before .before .before .before .before .before .before .before .before .before .before .before .before .before .before .before .args .p) (c .before .before .before .before .before .before .before .before .before .before .before .before .before .before .before .before .before .before .before .before .read-key .last .1 .1 .0) (c .before .before .before .before .before .before .before .before .before .before .before .before .before .before .before .before .before .before .before .before .before .before .before .before .before .before .before .before .args .mu .now) (c .before .before .before .before .before .before .before .before .before .before .before .before .before .before .before .before .before .before .before .before .before .before .before .before .before .before .before .before .args .rho .now)) (c .before .before .before .before .before .before .before .before .before .before .before .before .before .before .before .before .before .before .before .before .before .before .before .before .before .before .before .before .args .limit) _ (c .before .before .before .before .before .before .before .before .before .before .before .before .before .first-passing .last .1 .1 .1 .1 .0) (c .before .before .before .before .before .before .before .before .before .before .before .before .before .first-passing .last .1 .1 .1 .1 .1 .0) F _ (c .before .before .write-signature .ensures))
 

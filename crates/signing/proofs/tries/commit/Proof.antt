@@ -1,47 +1,33 @@
-use mathlib.Core.Path.{_≡_, refl, sym, ap, subst, _∙_}
+use mathlib.Core.Path.{sym, ap, _∙_}
 use Rattle.packing.specs.Layouts.{size}
 use Rattle.packing.specs.declared.layout.Layout.{Layout}
 use lib.Seq.{length-take-le}
-use Rattle.memory.proofs.Holding.{keeps-wrote}
-use Rattle.signing.proofs.Stages.{within-kept, asks-two, ready-product, ready-mask, sum-wrote, rest-wrote, committed, w1-asks, w1-held}
+use Rattle.signing.proofs.Stages.{w1-asks, w1-held}
 use borrow.Author.Needs.{needs}
 use Rattle.signing.proofs.tries.commit.Statement.{statement}
 use Rattle.signing.proofs.tries.commit.Tie as tie
-use Rattle.signing.proofs.tries.commit.Reads as reads
-use Rattle.signing.proofs.tries.commit.Lts as lts
-use Rattle.packing.proofs.layout.Layout.size.Reads as size-reads
-use Rattle.packing.proofs.layout.Layout.w1.Reads as w1-reads
-use Rattle.signing.proofs.tries.commit_in.Reads as commit-in-reads
 
--- src/tries.rt:70:15
 w1-requires : tie.Need-w1-requires
 w1-requires c κs = search needs
 
--- src/tries.rt:70:9
 size-requires : tie.Need-size-requires
 size-requires c κs = w1-asks (c .before .before .before .before .args .p) (c .before .before .before .before .pre .0 .0) (c .w1 .result) (c .w1 .ensures)
 
--- src/tries.rt:71:28
 array-borrow-prefix-packed : tie.Need-array-borrow-prefix-packed
 array-borrow-prefix-packed c = w1-held (c .before .before .before .before .before .before .args .p) (c .before .before .before .before .before .before .pre .0 .0) (c .before .before .w1 .result) (c .before .before .w1 .ensures) _ (c .before .size .ensures)
 
--- src/tries.rt:71:28
 slice-aggregate-commit-in : tie.Need-slice-aggregate-commit-in
 slice-aggregate-commit-in c = sym (length-take-le _ _ (w1-held (c .before .before .before .before .before .before .before .args .p) (c .before .before .before .before .before .before .before .pre .0 .0) (c .before .before .before .w1 .result) (c .before .before .before .w1 .ensures) _ (c .before .before .size .ensures)))
 
--- src/tries.rt:71:5
 commit-in-requires : tie.Need-commit-in-requires
 commit-in-requires c κs = (c .before .before .before .before .before .before .before .before .pre .0, (length-take-le _ _ (w1-held (c .before .before .before .before .before .before .before .before .args .p) (c .before .before .before .before .before .before .before .before .pre .0 .0) (c .before .before .before .before .w1 .result) (c .before .before .before .before .w1 .ensures) _ (c .before .before .before .size .ensures)) ∙ c .before .before .before .size .ensures ∙ ap (λ (l : Layout). size l (c .before .before .before .before .before .before .before .before .args .p .n)) (c .before .before .before .before .w1 .ensures), c .before .before .before .before .before .before .before .before .pre .1))
 
--- src/tries.rt:63:1
 same-length : tie.Need-same-length
 same-length c = search needs
 
--- src/tries.rt:63:1
 same-length-2 : tie.Need-same-length-2
 same-length-2 c = search needs
 
--- src/tries.rt:63:1
 returns : tie.Need-returns
 returns c = search needs
 

@@ -1,58 +1,39 @@
-use lib.Seq.{length-take-le}
 use Rattle.memory.proofs.Holding.{keeps-wrote}
-use Rattle.signing.proofs.Stages.{within-kept, asks-two, ready-product, ready-mask, sum-wrote, rest-wrote, committed, w1-asks, w1-held}
-use Rattle.packing.specs.Layouts.{size, w1Layout}
+use Rattle.signing.proofs.Stages.{within-kept, committed, within, asks-w1}
+use Rattle.packing.specs.Layouts.{size}
 use Rattle.packing.specs.Engine.{Readable}
 use Rattle.packing.specs.declared.layout.Layout.{Layout}
 use Rattle.packing.proofs.Room.{w1-readable}
-use mathlib.Core.List.{List}
-use Prim.Native.Nat.{ℕ}
-use mathlib.Core.Path.{_≡_, refl, sym, ap, subst, _∙_}
+use mathlib.Core.Path.{sym, ap, subst, _∙_}
 use native.Mathlib.Omega.{arith}
-use Rattle.signing.proofs.Stages.{within, ready-next, ready-keeps, asks-product, reduced-residues, stage-y, stage-w, asks-w1}
 use borrow.Author.Needs.{needs}
 use Rattle.signing.proofs.tries.commit_in.Statement.{statement}
 use Rattle.signing.proofs.tries.commit_in.Tie as tie
-use Rattle.signing.proofs.tries.commit_in.Reads as reads
-use Rattle.signing.proofs.tries.commit_in.Lts as lts
-use Rattle.memory.proofs.pack_from.Reads as pack-from-reads
-use Rattle.packing.proofs.layout.Layout.w1.Reads as w1-reads
-use Rattle.shake.proofs.shake256.Reads as shake256-reads
-use Rattle.slots.proofs.high_bits.Reads as high-bits-reads
 
--- src/tries.rt:58:5
 high-bits-requires : tie.Need-high-bits-requires
 high-bits-requires c κs = (c .before .before .before .before .before .pre .0 .0 .good, (c .before .before .before .before .before .pre .0 .1 .each 5 (omega arith), (omega arith, omega arith, λ e. omega arith, within (c .before .before .before .before .before .args .p) (c .before .before .before .before .before .pre .0 .1) 5 (omega arith), within (c .before .before .before .before .before .args .p) (c .before .before .before .before .before .pre .0 .1) 7 (omega arith))))
 
--- src/tries.rt:59:26
 w1-requires : tie.Need-w1-requires
 w1-requires c κs = search needs
 
--- src/tries.rt:59:5
 pack-from-requires : tie.Need-pack-from-requires
 pack-from-requires c κs = ((c .before .before .before .before .before .before .before .before .before .before .before .pre .0 .0, subst (λ (l : Layout). Readable l (c .before .before .before .before .before .before .before .before .before .before .before .args .p .q)) (sym (c .before .before .w1 .ensures)) (w1-readable (c .before .before .before .before .before .before .before .before .before .before .before .args .p) (c .before .before .before .before .before .before .before .before .before .before .before .pre .0 .0 .good))), ((omega arith, within-kept (c .before .before .before .before .before .before .before .before .before .before .before .args .p .n) 7 (within (c .before .before .before .before .before .before .before .before .before .before .before .args .p) (c .before .before .before .before .before .before .before .before .before .before .before .pre .0 .1) 7 (omega arith)) (c .before .before .before .before .before .high-bits .ensures), c .before .before .before .before .before .before .before .before .before .before .before .pre .1 .0 ∙ sym (ap (λ (l : Layout). size l (c .before .before .before .before .before .before .before .before .before .before .before .args .p .n)) (c .before .before .w1 .ensures))), asks-w1 (c .before .before .before .before .before .before .before .before .before .before .before .args .p) (c .before .before .before .before .before .before .before .before .before .before .before .pre .0 .0) (c .before .before .w1 .result) (c .before .before .w1 .ensures) 5 7 (c .before .before .before .before .before .before .before .before .before .before .before .args .work .now) (c .before .before .before .before .before .before .before .before .before .before .before .pre .0 .1 .each 5 (omega arith)) (c .before .before .before .before .before .high-bits .ensures)))
 
--- src/tries.rt:60:33
 slice-aggregate-shake256 : tie.Need-slice-aggregate-shake256
 slice-aggregate-shake256 c = search needs
 
--- src/tries.rt:60:5
 shake256-requires : tie.Need-shake256-requires
 shake256-requires c κs = search needs
 
--- src/tries.rt:52:1
 same-length : tie.Need-same-length
 same-length c = search needs
 
--- src/tries.rt:52:1
 same-length-2 : tie.Need-same-length-2
 same-length-2 c = search needs
 
--- src/tries.rt:52:1
 same-length-3 : tie.Need-same-length-3
 same-length-3 c = search needs
 
--- src/tries.rt:52:1
 returns : tie.Need-returns
 returns c = (keeps-wrote (c .before .before .before .before .before .before .before .before .before .before .before .before .before .before .before .before .before .before .before .before .args .p) 7 (omega arith) (c .before .before .before .before .before .before .before .before .before .before .before .before .before .before .high-bits .ensures), committed (c .before .before .before .before .before .before .before .before .before .before .before .before .before .before .before .before .before .before .before .before .args .p) (c .before .before .before .before .before .before .before .before .before .before .before .before .before .before .before .before .before .before .before .before .args .mu .now) _ _ _ _ (c .before .before .before .before .before .before .before .before .before .before .before .w1 .result) _ (c .before .before .before .before .before .before .before .before .before .before .before .w1 .ensures) (c .before .before .before .before .before .before .before .before .pack-from .ensures) (c .before .before .before .before .before .before .before .before .before .before .before .before .before .before .high-bits .ensures .here) (c .before .before .before .before .before .before .before .before .before .before .before .before .before .before .before .before .before .before .before .before .pre .1 .1) (c .before .before .shake256 .ensures))
 
