@@ -23,11 +23,11 @@ same [] (y ∷ ys) = false
 same (x ∷ xs) [] = false
 same (x ∷ xs) (y ∷ ys) = eqb x y && same xs ys
 
--- "a·z - c·t1·4096"
+-- "a·z - c·t1·4096" (line 4)
 abbrev pub recomputed : Profile → List ℤ → List ℤ → List ℤ → List ℤ → List ℤ
 recomputed P a z c t1 = minus P (mul P a z) (scaled P (pos (2 ^ P .num .d)) (mul P c t1))
 
--- "μ = H(ph then M, 64)" with "ph = H(ζ then packed t1, 32)": the hash of the public key's bytes
+-- "μ = H(ph then M, 64)" with "ph = H(ζ then packed t1, 32)": the hash of the public key's bytes (line 2)
 abbrev pub muFor : Hash → List ℕ → List ℕ → List ℕ
 muFor H pk M = H (H pk 32 ++ M) 64
 

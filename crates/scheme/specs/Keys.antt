@@ -18,20 +18,20 @@ pub record Pair : Type 0 where
   pub public : List ℕ
   pub secret : List ℕ
 
--- "t = a·s1 + s2" (line 3)
+-- "t = a·s1 + s2" (line 5)
 abbrev pub keyT : Profile → List ℤ → List ℤ → List ℤ → List ℤ
 keyT P a s1 s2 = plus P (mul P a s1) s2
 
--- the public key is ζ and t1 (lines 4 and 6)
+-- the public key is ζ and t1 (lines 6 and 8)
 abbrev pub publicKey : Profile → List ℕ → List ℤ → List ℕ
 publicKey P ζ t = packPublic (P .num) record { zeta = ζ; t1 = powerHighs P t }
 
--- "ph = H(ζ then packed t1, 32)": the hash of the public key (line 5)
+-- "ph = H(ζ then packed t1, 32)": the hash of the public key (line 7); the secret key (line 8)
 abbrev pub secretKey : Profile → Hash → List ℕ → List ℕ → List ℤ → List ℤ → List ℤ → List ℕ
 secretKey P H ζ K s1 s2 t =
     packSecret (P .num) record { zeta = ζ; ph = H (publicKey P ζ t) 32; k = K; s1 = s1; s2 = s2; t0 = powerLows P t }
 
--- "H(ζ', 96) is ξ1, ξ2, K." (line 1)
+-- "H(ζ', 96) is ξ1, ξ2, K." (line 2)
 abbrev pub seedParts : List ℕ
 seedParts = 32 ∷ 32 ∷ 32 ∷ []
 

@@ -32,11 +32,11 @@ firstPass t κ (suc m) =
     let next = firstPass t (suc κ) m in
     orNext (t κ) κ next
 
--- "μ = H(ph then M, 64)"
+-- "μ = H(ph then M, 64)" (line 2)
 abbrev pub muOf : Profile → Hash → List ℕ → List ℕ → List ℕ
 muOf P H sk M = H (part (secretParts (P .num)) 1 sk ++ M) 64
 
--- "ρ = H(K then μ, 64)"
+-- "ρ = H(K then μ, 64)" (line 4)
 abbrev pub rhoOf : Profile → Hash → List ℕ → List ℕ → List ℕ
 rhoOf P H sk M = H (part (secretParts (P .num)) 2 sk ++ muOf P H sk M) 64
 

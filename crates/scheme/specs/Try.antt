@@ -37,23 +37,23 @@ pub record Signer : Type 0 where
   pub mu : List ℕ
   pub rho : List ℕ
 
--- "c̃ = H(μ then packed w1, 32)", w1 given
+-- "c̃ = H(μ then packed w1, 32)", w1 given (line 8)
 unfoldable pub commit : Profile → Hash → List ℕ → List ℤ → List ℕ
 commit P H μ w1 = H (μ ++ pack (w1Layout (P .num)) (P .num .n) w1) 32
 
--- "z = y + c·s1"
+-- "z = y + c·s1" (line 10)
 abbrev pub response : Profile → Signer → List ℤ → List ℤ → List ℤ
 response P S y c = centring P (plus P y (mul P c (S .s1)))
 
--- "w - c·s2"
+-- "w - c·s2" (line 11)
 abbrev pub masked : Profile → Signer → List ℤ → List ℤ → List ℤ
 masked P S w c = minus P w (mul P c (S .s2))
 
--- "MakeHint(-c·t0, w - c·s2 + c·t0)"
+-- "MakeHint(-c·t0, w - c·s2 + c·t0)" (line 15)
 abbrev pub hints : Profile → Signer → List ℤ → List ℤ → List ℤ
 hints P S w c = makeHints P (negated P (mul P c (S .t0))) (plus P (masked P S w c) (mul P c (S .t0)))
 
--- the tests in their order, once there is a challenge
+-- the tests in their order, once there is a challenge (lines 13 and 17)
 unfoldable pub judged : Profile → Signer → List ℤ → List ℤ → List ℕ → Drawn → Try
 judged P S y w c~ dry = fails ChallengeDry
 judged P S y w c~ (drew c) =
@@ -64,7 +64,7 @@ judged P S y w c~ (drew c) =
     (passes (packSignature (P .num) record { c~ = c~; z = response P S y c; h = hints P S w c }))
     (fails ManyOnes))))
 
--- "w = a·y; w1 its high bits; c̃ = H(μ then packed w1, 32); c from c̃"
+-- "w = a·y; w1 its high bits; c̃ = H(μ then packed w1, 32); c from c̃" (lines 5 to 9)
 unfoldable pub try : Profile → Hash → Signer → ℕ → Try
 try P H S κ =
     let y = expandY (P .num) H (S .rho) κ in
