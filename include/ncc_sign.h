@@ -18,7 +18,8 @@
  *   The length that you pass is believed: the memory behind the pointer must be at least that long.
  * - The buffers of one call must not overlap.
  * - An int32_t or uint32_t buffer must be aligned as your compiler aligns that type.
- * - An empty buffer is a valid pointer with length 0. Do not pass NULL, not even with length 0.
+ * - An empty buffer is any pointer with length 0. NULL with length 0 is taken in the same way; `tests/compare null` tries it
+ *   in every place. `uint32_t *high` is no buffer and is never NULL.
  * - `uint32_t *high` of ncc_use_hint must point to one number.
  *
  *
@@ -45,7 +46,30 @@
  * on a painted stack, with the archive for x86-64 (`bench/memory --write` measures and fills in this table):
  *
  * stack table begins
- *     not measured yet
+ *     ncc_make_keys            87384
+ *     ncc_sign                 91992
+ *     ncc_check                90088
+ *     ncc_shake256              2832
+ *     ncc_product              37256
+ *     ncc_high_bits               64
+ *     ncc_low_bits                64
+ *     ncc_make_hint               64
+ *     ncc_use_hint                64
+ *     ncc_power2_high             64
+ *     ncc_power2_low              64
+ *     ncc_sample_a              4680
+ *     ncc_sample_s              4920
+ *     ncc_sample_challenge      4904
+ *     ncc_pack_t1               4664
+ *     ncc_unpack_t1             4808
+ *     ncc_pack_t0               4664
+ *     ncc_unpack_t0             4808
+ *     ncc_pack_s                4664
+ *     ncc_unpack_s              4808
+ *     ncc_pack_z                4664
+ *     ncc_unpack_z              4808
+ *     ncc_pack_w1               4664
+ *     ncc_unpack_w1             4808
  * stack table ends
  */
 #ifndef NCC_SIGN_H

@@ -68,12 +68,20 @@ fn rows(a: &[u32], b: &[u32], sums: &mut [u64])
     }
 }
 
+// A number below 2q, reduced. A comparison is cheaper than a division by a q that is not known before.
+fn wrapped(x: u32, q: u32) -> u32
+    requires { ⌜ x < 2 * q ⌝ }
+    ensures { λ r. ⌜ r ≡ x % q ⌝ }
+{
+    if x < q { x } else { x - q }
+}
+
 // Adds c to coefficient k.
 fn add_at(out: &mut [u32], q: u32, k: usize, c: u32)
     requires { ⌜ (k < length (now out)) × (getD (now out) k 0 < q) × (c ≤ q) × (q < 2 ^ 25) ⌝ }
     ensures { λ _. ⌜ now (out .exit) ≡ set (now (out .entry)) k ((getD (now (out .entry)) k 0 + c) % q) ⌝ }
 {
-    out[k] = (out[k] + c) % q;
+    out[k] = wrapped(out[k] + c, q);
 }
 
 // Adds c X^e. "An exponent falls in one of three ranges": it stays, it folds to two, or it is negated. The ranges go by halves of n.

@@ -42,12 +42,3 @@ pub fn shake256(first: &[u8], second: &[u8], third: &[u8], out: &mut [u8])
     let s = absorb::blocks(s3, &held);
     squeeze::squeeze(s, out);
 }
-
-// The same for a caller in C, over a message in one part.
-#[no_mangle]
-pub extern "C" fn ncc_shake256(message: &[u8], out: &mut [u8]) -> u64
-    ensures { λ r. ⌜ (r ≡ 0) × (now (out .exit) ≡ shake256 (now (message .entry)) (length (now (out .entry)))) ⌝ }
-{
-    shake256(message, b"", b"", out);
-    0
-}

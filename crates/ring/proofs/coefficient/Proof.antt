@@ -1,7 +1,6 @@
 use mathlib.Core.Path.{sym}
 use borrow.Author.Needs.{needs}
 use lib.ListN.{List·getD-eq-default}
-use borrow.Author.Needs.{needs}
 use Rattle.ring.proofs.coefficient.Statement.{statement}
 use Rattle.ring.proofs.coefficient.Tie as tie
 

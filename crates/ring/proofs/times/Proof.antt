@@ -2,7 +2,6 @@ use Prim.Native.Nat.{_-_, _^_}
 use native.Mathlib.Nat.{mul-le-mul}
 use native.Mathlib.Omega.{arith}
 use borrow.Author.Needs.{needs}
-use borrow.Author.Needs.{needs}
 use Rattle.ring.proofs.times.Statement.{statement}
 use Rattle.ring.proofs.times.Tie as tie
 

@@ -1,0 +1,2 @@
+-- The numbers of inputs that are too short or too long.
+pub mod Lengths

@@ -1,0 +1,2 @@
+-- An input is cut in two seeds.
+pub mod Cut
