@@ -16,7 +16,7 @@ use Rattle.scheme.specs.Keys.{keyT}
 use Rattle.slots.specs.Slots.{slot, Wrote}
 use Rattle.slots.specs.Elements.{added, powerHighsOf, powerLowsOf}
 use Rattle.memory.specs.Holds.{Holds}
-use Rattle.memory.proofs.Holding.{holds-kept, holds-mul, holds-plus, holds-power-highs, holds-power-lows, residues-of}
+use Rattle.memory.proofs.Holding.{holds-kept, holds-turned, holds-plus, holds-power-highs, holds-power-lows, residues-of}
 use Rattle.keys.specs.Steps.{Rounded}
 
 module _ (p : Set) (T : Trinomial p) where
@@ -28,10 +28,10 @@ module _ (p : Set) (T : Trinomial p) where
   own : {k : ℕ} {work : List ℕ} → Residues p (slot (p .n) k work) → Holds p k (map pos (slot (p .n) k work)) work
   own {k} {work} r = record { long = length-map (slot (p .n) k work) pos ∙ r .long; here = own-back (slot (p .n) k work) (r .each) }
 
-  module _ (work w1 : List ℕ) (m : Wrote (p .n) 3 (multiplied p (slot (p .n) 0 work) (slot (p .n) 1 work)) work w1) where
+  module _ (work w1 : List ℕ) (m : Wrote (p .n) 3 (multiplied p (slot (p .n) 1 work) (slot (p .n) 0 work)) work w1) where
     module _ (a s1 s2 : List ℤ) (A : Holds p 0 a work) (B : Holds p 1 s1 work) (C : Holds p 2 s2 work) where
       product-held : Holds p 3 (mul (trinomial p) a s1) w1
-      product-held = holds-mul p T A B m
+      product-held = holds-turned p T A B m
 
       s2-still : Holds p 2 s2 w1
       s2-still = holds-kept p C (m .kept 2 (λ e. omega arith))
@@ -58,7 +58,7 @@ module _ (p : Set) (T : Trinomial p) where
 
   -- each step leaves remainders
   module _ {work w1 : List ℕ} (a : Residues p (slot (p .n) 0 work)) (b : Residues p (slot (p .n) 1 work)) (c : Residues p (slot (p .n) 2 work))
-      (m : Wrote (p .n) 3 (multiplied p (slot (p .n) 0 work) (slot (p .n) 1 work)) work w1) where
+      (m : Wrote (p .n) 3 (multiplied p (slot (p .n) 1 work) (slot (p .n) 0 work)) work w1) where
     pub product-residues : Residues p (slot (p .n) 3 w1)
     product-residues = residues-of p T (product-held work w1 m _ _ _ (own a) (own b) (own c))
 

@@ -56,14 +56,14 @@ fn draw(p: Numbers, zeta: &[u8], seeds: &[u8], work: &mut [u32]) -> Sampled
     memory::fill_s(p, &seeds[32..64], work, S2)
 }
 
-// t = a·s1 + s2, and its two parts (lines 5 and 6).
+// t = a·s1 + s2, and its two parts (lines 5 and 6). s1 stands first in the product, which passes over the zeros of its first factor.
 fn round(p: Numbers, work: &mut [u32])
     requires { ⌜ Trinomial p ⌝ }
     requires { ⌜ 11 * p .n ≤ length (now work) ⌝ }
     requires { ⌜ Residues p (slot (p .n) 0 (now work)) × Residues p (slot (p .n) 1 (now work)) × Residues p (slot (p .n) 2 (now work)) ⌝ }
     ensures { λ _. ⌜ ((a s1 s2 : List ℤ) → Holds p 0 a (now (work .entry)) → Holds p 1 s1 (now (work .entry)) → Holds p 2 s2 (now (work .entry)) → Rounded p a s1 s2 (now (work .exit))) ⌝ }
 {
-    slots::multiply(p, work, A, S1, T);
+    slots::multiply(p, work, S1, A, T);
     slots::add_to(p, work, S2, T);
     slots::power_highs(p, work, T, T1);
     slots::power_lows(p, work, T, T0);

@@ -15,6 +15,7 @@ use Rattle.ring.specs.Ring.{at, product}
 use Rattle.ring.specs.Engine.{multiplied, Residues}
 use Rattle.ring.specs.Profile.{trinomial, mul}
 use Rattle.ring.proofs.Lists.{tab-cong, length-tab}
+use Rattle.ring.proofs.Engine.{multiplied-turned}
 use Rattle.slots.specs.Slots.{slot, Wrote}
 use Rattle.slots.specs.Elements.{added, lessened, hinted, rested, usedHints, highsOf, powerHighsOf, powerLowsOf}
 use Rattle.scheme.specs.Elements.{plus, minus, negated, scaled, highs, powerHighs, powerLows, makeHints, useHints}
@@ -65,6 +66,11 @@ module _ (p : Set) (T : Trinomial p) where
     holds-mul w =
         holds-wrote p (mul (trinomial p) a b) (length-product a b) w
         ((λ t. multiplied p (A .here t) (B .here t)) ∙ mul-is p T a b (A .long) (B .long))
+
+    -- the same, multiplied the other way round
+    pub holds-turned : Wrote (p .n) k (multiplied p (slot (p .n) j work) (slot (p .n) i work)) work more → Holds p k (mul (trinomial p) a b) more
+    holds-turned w =
+        holds-mul (record { long = w .long; here = w .here ∙ multiplied-turned p (slot (p .n) j work) (slot (p .n) i work); kept = w .kept })
 
     pub holds-plus : Wrote (p .n) k (added p (slot (p .n) i work) (slot (p .n) j work)) work more → Holds p k (plus (trinomial p) a b) more
     holds-plus w =

@@ -11,7 +11,7 @@ use lib.Dec.{leb}
 use lib.IntN.{ℤ, pos, negsuc, natAbs, negℤ, subℕ}
 use Rattle.residues.specs.Remainder.{residue, signed, centred, magnitude}
 use Rattle.residues.proofs.Order.{below-or}
-use Rattle.residues.proofs.Differences.{sub-lt, abs-sub}
+use Rattle.residues.proofs.Differences.{sub-ge, sub-lt, abs-sub}
 use Rattle.residues.proofs.Remainders.{residue-lt, residue-small, residue-again, residue-neg, residue-negated}
 
 pub signed-low : (q x : ℕ) → x ≤ q / 2 → signed q x ≡ pos x
@@ -19,6 +19,14 @@ signed-low q x l = rw (le-leb x (q / 2) l)
 
 pub signed-high : (q x : ℕ) → q / 2 < x → signed q x ≡ subℕ x q
 signed-high q x l = rw (lt-leb x (q / 2) l)
+
+-- the representative as a difference, of what is taken off above the half
+pub signed-by : (q x : ℕ) → subℕ x (cond (leb x (q / 2)) 0 q) ≡ signed q x
+signed-by q x =
+    ⊎-elim (λ h. rw (lt-leb x (q / 2) h)) (λ h. rw (le-leb x (q / 2) h) (sub-ge {a = x} {b = 0} (omega arith) ∙ ap pos (omega arith))) (below-or (q / 2) x)
+
+pub taken-most : (q x : ℕ) → cond (leb x (q / 2)) 0 q ≤ q
+taken-most q x = ⊎-elim (λ h. rw (lt-leb x (q / 2) h) (omega arith)) (λ h. rw (le-leb x (q / 2) h) (omega arith)) (below-or (q / 2) x)
 
 module _ (q : ℕ) (hq : 0 < q) where
   -- the representative is congruent

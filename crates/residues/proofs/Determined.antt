@@ -9,6 +9,12 @@ use Rattle.residues.proofs.centre.Reads as centre
 use Rattle.residues.proofs.centre.Kinds as centre-kinds
 use Rattle.residues.proofs.magnitude.Reads as magnitude
 use Rattle.residues.proofs.magnitude.Kinds as magnitude-kinds
+use Rattle.residues.proofs.divide.modulo.Reads as modulo
+use Rattle.residues.proofs.divide.modulo.Kinds as modulo-kinds
+use Rattle.residues.proofs.divide.wrap.Reads as wrap
+use Rattle.residues.proofs.divide.wrap.Kinds as wrap-kinds
+use Rattle.residues.proofs.divide.quotient.Reads as quotient
+use Rattle.residues.proofs.divide.quotient.Kinds as quotient-kinds
 
 pub reduce-one : One 0 reduce-kinds.ps reduce-kinds.r reduce.Post (λ κs s. tt {0})
 reduce-one κs a x y s t p q = (p ∙ sym q, refl)
@@ -21,3 +27,12 @@ centre-one κs a x y s t p q = (p ∙ sym q, refl)
 
 pub magnitude-one : One 0 magnitude-kinds.ps magnitude-kinds.r magnitude.Post (λ κs s. tt {0})
 magnitude-one κs a x y s t p q = (p ∙ sym q, refl)
+
+pub modulo-one : One 0 modulo-kinds.ps modulo-kinds.r modulo.Post (λ κs s. tt {0})
+modulo-one κs a x y s t p q = (p ∙ sym q, refl)
+
+pub wrap-one : One 0 wrap-kinds.ps wrap-kinds.r wrap.Post (λ κs s. tt {0})
+wrap-one κs a x y s t p q = (p ∙ sym q, refl)
+
+pub quotient-one : One 0 quotient-kinds.ps quotient-kinds.r quotient.Post (λ κs s. tt {0})
+quotient-one κs a x y s t p q = (p ∙ sym q, refl)

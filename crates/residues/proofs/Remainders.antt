@@ -15,6 +15,13 @@ pub mod-same : (q x y k l : ℕ) → x < q → y < q → x + k * q ≡ y + l * q
 mod-same q x y k l hx hy e =
     sym (mod-eq-of-lt hx) ∙ sym (add-mul-mod-self-right x k q) ∙ ap (λ (n : ℕ). n % q) e ∙ add-mul-mod-self-right y l q ∙ mod-eq-of-lt hy
 
+-- a number below 2q, reduced by a comparison
+pub below-once : (x q : ℕ) → x < q → x ≡ x % q
+below-once x q l = sym (mod-eq-of-lt l)
+
+pub below-twice : (x q : ℕ) → q ≤ x → x < 2 * q → x - q ≡ x % q
+below-twice x q l m = mod-same q (x - q) (x % q) 1 (x / q) (omega arith) (mod-lt x (omega arith)) (omega (arith, div-add-mod' x q))
+
 module _ (q : ℕ) (p : 0 < q) where
   pub residue-lt : (x : ℤ) → residue q x < q
   unfolding residue

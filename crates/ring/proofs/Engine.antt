@@ -17,10 +17,16 @@ use Rattle.residues.proofs.Remainders.{residue-lt, residue-again, residue-plus,
 use Rattle.ring.specs.Ring.{sum, fold, prod}
 use Rattle.ring.specs.Engine.{whole, multiplied, Residues, total, meet, meetPadded, Padded, Unsummed, Unfolded, Foldable, Folded, FoldedAll}
 use Rattle.ring.proofs.Sums.{cong}
-use Rattle.ring.proofs.Lists.{is-tab}
+use Rattle.ring.proofs.Lists.{is-tab, tab-cong}
+use Rattle.ring.proofs.Algebra.{prod-comm}
 use Rattle.ring.proofs.Reindex.{by-exponent, moved, pos-total, pos-meet}
 use Rattle.ring.proofs.Padding.{at-zeros}
 use Rattle.ring.proofs.Rowing.{total-cong, meet-padded}
+
+-- the product of remainders commutes
+pub multiplied-turned : (p : Set) (a b : List ℕ) → multiplied p a b ≡ multiplied p b a
+unfolding multiplied
+multiplied-turned p a b = tab-cong (p .n) _ _ (λ k l. ap (residue (p .q)) (prod-comm (p .n) (fold (p .n / 2)) (whole a) (whole b) k))
 
 module _ (p : Set) (T : Trinomial p) where
   pub q-some : 0 < p .q
@@ -81,7 +87,7 @@ module _ (p : Set) (T : Trinomial p) where
 
   module _ (a b : List ℕ) (A : Residues p a) (B : Residues p b) where
     -- room for the rows
-    pub can-sum : (c sums : List ℕ) → Padded b c → length sums ≡ 2 * p .n + 2 → ((e : ℕ) → getD sums e 0 ≡ 0) → Unsummed a c sums
+    pub can-sum : (c sums : List ℕ) → Padded b c → length sums ≡ 2 * p .n + 14 → ((e : ℕ) → getD sums e 0 ≡ 0) → Unsummed a c sums
     can-sum c sums P w z =
         let l = A .long in
         let m = B .long in
@@ -93,19 +99,19 @@ module _ (p : Set) (T : Trinomial p) where
           before = P .before;
           behind = λ k g. past k g;
           left = λ k. omega (arith, A .each k, T .good .qRoom);
-          right = λ k. ⊎-elim (λ g. omega (arith, P .before k g)) (λ g. inner k g) (below-or k 3);
+          right = λ k. ⊎-elim (λ g. omega (arith, P .before k g)) (λ g. inner k g) (below-or k 15);
           zeros = z;
         }
       where
-        inner : (k : ℕ) → 3 ≤ k → getD c k 0 < 2 ^ 25
+        inner : (k : ℕ) → 15 ≤ k → getD c k 0 < 2 ^ 25
         inner k g =
-            let e : getD c k 0 ≡ getD b (k - 3) 0 = ap (λ (x : ℕ). getD c x 0) {x = k} {y = k - 3 + 3} (omega arith) ∙ P .inside (k - 3) in
-            omega (arith, B .each (k - 3), T .good .qRoom)
+            let e : getD c k 0 ≡ getD b (k - 15) 0 = ap (λ (x : ℕ). getD c x 0) {x = k} {y = k - 15 + 15} (omega arith) ∙ P .inside (k - 15) in
+            omega (arith, B .each (k - 15), T .good .qRoom)
 
-        past : (k : ℕ) → length c ≤ k + 3 → getD c k 0 ≡ 0
+        past : (k : ℕ) → length c ≤ k + 15 → getD c k 0 ≡ 0
         past k g =
             let n = P .long in
-            ap (λ (x : ℕ). getD c x 0) {x = k} {y = k - 3 + 3} (omega arith) ∙ P .inside (k - 3) ∙ List·getD-eq-default b 0 (omega arith)
+            ap (λ (x : ℕ). getD c x 0) {x = k} {y = k - 15 + 15} (omega arith) ∙ P .inside (k - 15) ∙ List·getD-eq-default b 0 (omega arith)
 
     -- what a and b bring to X^e, as whole numbers
     meets : (e : ℕ) → pos (total (p .n) (meet a b e)) ≡ sum (p .n) (λ i. whole a i *ℤ moved (whole b) i e)

@@ -1,19 +1,12 @@
 -- The product mod q goes by its factors mod q.
 use mathlib.Core.Path.{_≡_, refl, sym, ap, _∙_}
-use Prim.Native.Nat.{ℕ, zero, suc, _+_, _*_, _-_, _/_, _%_, _≤_, _<_}
-use native.Mathlib.Nat.{mod-eq-of-lt, mod-lt, div-add-mod'}
+use Prim.Native.Nat.{ℕ, zero, suc, _+_, _*_, _-_, _%_, _<_}
+use native.Mathlib.Nat.{mod-eq-of-lt}
 use native.Mathlib.Omega.{arith}
 use lib.IntN.{ℤ, pos, negsuc, negℤ, _+ℤ_, _*ℤ_}
 use Rattle.residues.specs.Remainder.{residue}
-use Rattle.residues.proofs.Remainders.{mod-same, residue-plus, residue-times, residue-negated, residue-pos}
+use Rattle.residues.proofs.Remainders.{residue-plus, residue-times, residue-negated, residue-pos}
 use Rattle.ring.specs.Ring.{sum, prod}
-
--- a number below 2q, reduced by a comparison
-pub below-once : (x q : ℕ) → x < q → x ≡ x % q
-below-once x q l = sym (mod-eq-of-lt l)
-
-pub below-twice : (x q : ℕ) → q ≤ x → x < 2 * q → x - q ≡ x % q
-below-twice x q l m = mod-same q (x - q) (x % q) 1 (x / q) (omega arith) (mod-lt x (omega arith)) (omega (arith, div-add-mod' x q))
 
 module _ (q : ℕ) (p : 0 < q) where
   pub residue-sum : (n : ℕ) (f g : ℕ → ℤ) → ((i : ℕ) → i < n → residue q (f i) ≡ residue q (g i)) → residue q (sum n f) ≡ residue q (sum n g)

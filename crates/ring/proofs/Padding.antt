@@ -1,55 +1,58 @@
 -- A list between zeros.
-use mathlib.Core.Path.{_≡_, sym, ap, _∙_}
-use mathlib.Core.List.{List, _++_}
+use mathlib.Core.Path.{_≡_, refl, sym, ap, _∙_}
+use mathlib.Core.List.{List}
 use mathlib.Core.Logic.{⊎-elim}
-use Prim.Native.Nat.{ℕ, _+_, _-_}
+use Prim.Native.Nat.{ℕ, _+_, _-_, _≤_, _<_}
 use native.Mathlib.Omega.{arith}
-use lib.ListN.{length, getD, take, drop, replicate, length-append, length-drop, length-replicate, getD-replicate, List·getD-eq-default, List·getD-append}
-use lib.Seq.{length-take-le, getD-take, getD-drop, getD-append-add}
+use native.Mathlib.Decide.{ℕ-discrete}
+use lib.ListN.{length, getD, set, length-set, replicate, length-replicate, getD-replicate, List·getD-eq-default}
+use lib.Seq.{getD-set-same, getD-set-other}
 use Rattle.residues.proofs.Order.{below-or}
-use Rattle.buffers.specs.Buffers.{overlay}
-use Rattle.buffers.proofs.Copies.{overlay-all}
 use Rattle.ring.specs.Engine.{Padded}
+use Rattle.ring.proofs.Filling.{keep}
 
 pub at-zeros : (n k : ℕ) → getD {A = ℕ} (replicate n 0) k 0 ≡ 0
 at-zeros n k =
     ⊎-elim (λ l. getD-replicate {A = ℕ} n k 0 0 l) (λ l. List·getD-eq-default (replicate n 0) 0 (omega (arith, length-replicate {A = ℕ} n 0)))
     (below-or k n)
 
-module _ (b z : List ℕ) (e : z ≡ replicate {A = ℕ} (length b + 6) 0) where
-  abbrev between : List ℕ
-  between = take 3 z ++ (b ++ drop (length b) (drop 3 z))
+-- the first k numbers stand behind fifteen zeros, and zeros behind them
+pub record Padding (b : List ℕ) (k : ℕ) (c : List ℕ) : Type 0 where
+  pub most : k ≤ length b
+  pub long : length c ≡ length b + 30
+  pub before : (j : ℕ) → j < 15 → getD c j 0 ≡ 0
+  pub done : (j : ℕ) → j < k → getD c (j + 15) 0 ≡ getD b j 0
+  pub left : (j : ℕ) → k + 15 ≤ j → getD c j 0 ≡ 0
 
-  zero-z : (k : ℕ) → getD z k 0 ≡ 0
-  zero-z k = ap (λ (l : List ℕ). getD l k 0) e ∙ at-zeros (length b + 6) k
-
-  long-z : length z ≡ length b + 6
-  long-z = ap length e ∙ length-replicate {A = ℕ} (length b + 6) 0
-
-  front : length (take 3 z) ≡ 3
-  front = length-take-le 3 z (omega (arith, long-z))
-
-  between-padded : Padded b between
-  between-padded = record {
-    long =
-        length-append (take 3 z) (b ++ drop (length b) (drop 3 z)) ∙
-        omega (arith, front, length-append b (drop (length b) (drop 3 z)), length-drop (length b) (drop 3 z), length-drop 3 z, long-z);
-    before = λ k l. List·getD-append (take 3 z) (b ++ drop (length b) (drop 3 z)) 0 k (omega (arith, front)) ∙ getD-take 3 z k 0 l ∙ zero-z k;
-    inside = λ k.
-        ap (λ (x : ℕ). getD between x 0) {x = k + 3} {y = length (take 3 z) + k} (omega (arith, front)) ∙
-        getD-append-add (take 3 z) (b ++ drop (length b) (drop 3 z)) k 0 ∙
-        ⊎-elim (λ l. List·getD-append b (drop (length b) (drop 3 z)) 0 k l)
-        (λ l.
-        ap (λ (x : ℕ). getD (b ++ drop (length b) (drop 3 z)) x 0) {x = k} {y = length b + (k - length b)} (omega arith) ∙
-        getD-append-add b (drop (length b) (drop 3 z)) (k - length b) 0 ∙
-        getD-drop (length b) (drop 3 z) (k - length b) 0 ∙ getD-drop 3 z (length b + (k - length b)) 0 ∙ zero-z (3 + (length b + (k - length b))) ∙
-        sym (List·getD-eq-default b 0 l))
-        (below-or k (length b));
+module _ (b : List ℕ) where
+  pub padding-none : (c : List ℕ) → c ≡ replicate (length b + 30) 0 → Padding b 0 c
+  padding-none c e = record {
+    most = omega arith;
+    long = ap length e ∙ length-replicate {A = ℕ} (length b + 30) 0;
+    before = λ j l. zero-c j;
+    done = λ j l. absurd (omega arith);
+    left = λ j l. zero-c j;
   }
+    where
+      zero-c : (j : ℕ) → getD c j 0 ≡ 0
+      zero-c j = ap (λ (l : List ℕ). getD l j 0) e ∙ at-zeros (length b + 30) j
 
-  -- as `pad` leaves it: copied over n zeros
-  pub padded : (k : ℕ) (ys : List ℕ) → k ≡ length b → ys ≡ overlay b (take k (drop 3 z)) → Padded b (take 3 z ++ (ys ++ drop k (drop 3 z)))
-  padded k ys f g =
-      let m : length (take k (drop 3 z)) ≡ length b = length-take-le k (drop 3 z) (omega (arith, length-drop 3 z, long-z)) ∙ f in
-      let y : ys ≡ b = g ∙ overlay-all b (take k (drop 3 z)) m in
-      rw (y, f) between-padded
+  pub padding-more : (k : ℕ) (c : List ℕ) → Padding b k c → k < length b → Padding b (k + 1) (set c (k + 15) (getD b k 0))
+  padding-more k c P l = record {
+    most = omega arith;
+    long = length-set c (k + 15) (getD b k 0) ∙ P .long;
+    before = λ j m. getD-set-other c (k + 15) j (getD b k 0) 0 (λ d. omega arith) ∙ P .before j m;
+    done = λ j m. at-place j m (ℕ-discrete j k);
+    left = λ j m. keep 0 c (k + 15) (getD b k 0) (λ x. 0) (P .left) j (omega arith);
+  }
+    where
+      at-place : (j : ℕ) → j < k + 1 → Dec (j ≡ k) → getD (set c (k + 15) (getD b k 0)) (j + 15) 0 ≡ getD b j 0
+      at-place j m (yes p) = rw p (getD-set-same c (k + 15) (getD b k 0) 0 (omega (arith, P .long)))
+      at-place j m (no p) = getD-set-other c (k + 15) (j + 15) (getD b k 0) 0 (λ d. p (omega arith)) ∙ P .done j (omega arith)
+
+  pub padded : (k : ℕ) (c : List ℕ) → Padding b k c → length b ≤ k → Padded b c
+  padded k c P l = record {
+    long = P .long;
+    before = P .before;
+    inside = λ j. ⊎-elim (λ m. P .done j (omega (arith, P .most))) (λ m. P .left (j + 15) (omega (arith, P .most)) ∙ sym (List·getD-eq-default b 0 m)) (below-or j (length b));
+  }

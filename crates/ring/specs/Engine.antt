@@ -32,55 +32,61 @@ total (suc n) f = total n f + f n
 abbrev pub meet : List ℕ → List ℕ → ℕ → ℕ → ℕ
 meet a b e i = cond (leb i e) (getD a i 0 * getD b (e - i) 0) 0
 
--- b with three zeros before it and three behind
+-- b with fifteen zeros before it and fifteen behind
 pub record Padded (b c : List ℕ) : Type 0 where
-  pub long : length c ≡ length b + 6
-  pub before : (k : ℕ) → k < 3 → getD c k 0 ≡ 0
-  pub inside : (k : ℕ) → getD c (k + 3) 0 ≡ getD b k 0
+  pub long : length c ≡ length b + 30
+  pub before : (k : ℕ) → k < 15 → getD c k 0 ≡ 0
+  pub inside : (k : ℕ) → getD c (k + 15) 0 ≡ getD b k 0
 
--- what four rows bring to the coefficient of X^e
-abbrev pub brought : List ℕ → ℕ → ℕ → ℕ → ℕ → ℕ → ℕ → ℕ
-brought c i a0 a1 a2 a3 e =
-    cond (leb i e)
-    (a0 * getD c (e - i + 3) 0 + a1 * getD c (e - i + 2) 0 + a2 * getD c (e - i + 1) 0 + a3 * getD c (e - i) 0)
-    0
-
--- room for four rows more: each number is below 2^25, and i rows are in the sums
-pub record Rows (sums c : List ℕ) (i a0 a1 a2 a3 : ℕ) : Type 0 where
-  pub some : 6 ≤ length c
-  pub zeros : (k : ℕ) → length c ≤ k + 3 → getD c k 0 ≡ 0
-  pub wide : i + length c ≤ length sums + 3
+-- room for the rows of a pass from X^i on: each number is below 2^25, and i rows are in the sums
+pub record Room (sums c : List ℕ) (i : ℕ) : Type 0 where
+  pub some : 30 ≤ length c
+  pub zeros : (k : ℕ) → length c ≤ k + 15 → getD c k 0 ≡ 0
+  pub wide : i + length c ≤ length sums + 15
   pub few : i ≤ 4096
   pub each : (k : ℕ) → getD c k 0 < 2 ^ 25
-  pub first : a0 < 2 ^ 25
-  pub second : a1 < 2 ^ 25
-  pub third : a2 < 2 ^ 25
-  pub fourth : a3 < 2 ^ 25
   pub sofar : (e : ℕ) → getD sums e 0 ≤ i * 2 ^ 50
 
-pub record Summed (sums c : List ℕ) (i a0 a1 a2 a3 : ℕ) (more : List ℕ) : Type 0 where
+-- what one row brings k places after its first, and what four rows bring that meet the padded c at 15, s1, s2 and s3
+abbrev pub one : List ℕ → ℕ → ℕ → ℕ
+one c a k = a * getD c (k + 15) 0
+
+abbrev pub four : List ℕ → ℕ → ℕ → ℕ → ℕ → ℕ → ℕ → ℕ → ℕ → ℕ
+four c s1 s2 s3 a0 a1 a2 a3 k = a0 * getD c (k + 15) 0 + a1 * getD c (k + s1) 0 + a2 * getD c (k + s2) 0 + a3 * getD c (k + s3) 0
+
+-- what a pass from X^i on brings to the coefficient of X^e
+abbrev pub brought : ℕ → (ℕ → ℕ) → ℕ → ℕ
+brought i pass e = cond (leb i e) (pass (e - i)) 0
+
+pub record Summed (sums : List ℕ) (i : ℕ) (pass : ℕ → ℕ) (more : List ℕ) : Type 0 where
   pub long : length more ≡ length sums
-  pub each : (e : ℕ) → e < length sums → getD more e 0 ≡ getD sums e 0 + brought c i a0 a1 a2 a3 e
+  pub each : (e : ℕ) → e < length sums → getD more e 0 ≡ getD sums e 0 + brought i pass e
+
+-- zeros stand from a place up to another
+pub record Passed (a : List ℕ) (from top at : ℕ) : Type 0 where
+  pub start : from ≤ at
+  pub most : at ≤ top
+  pub zeros : (k : ℕ) → from ≤ k → k < at → getD a k 0 ≡ 0
 
 -- the same as `meet`, with the padded b in the place of b
 abbrev pub meetPadded : List ℕ → List ℕ → ℕ → ℕ → ℕ
-meetPadded a c e i = cond (leb i e) (getD a i 0 * getD c (e - i + 3) 0) 0
+meetPadded a c e i = brought i (one c (getD a i 0)) e
 
 -- no row is in the sums yet, and there is room for all of them
 pub record Unsummed (a c sums : List ℕ) : Type 0 where
   pub some : 0 < length a
   pub most : length a ≤ 4096
-  pub wide : length sums ≡ 2 * length a + 2
-  pub long : length c ≡ length a + 6
-  pub before : (k : ℕ) → k < 3 → getD c k 0 ≡ 0
-  pub behind : (k : ℕ) → length c ≤ k + 3 → getD c k 0 ≡ 0
+  pub wide : length sums ≡ 2 * length a + 14
+  pub long : length c ≡ length a + 30
+  pub before : (k : ℕ) → k < 15 → getD c k 0 ≡ 0
+  pub behind : (k : ℕ) → length c ≤ k + 15 → getD c k 0 ≡ 0
   pub left : (k : ℕ) → getD a k 0 < 2 ^ 25
   pub right : (k : ℕ) → getD c k 0 < 2 ^ 25
   pub zeros : (e : ℕ) → getD sums e 0 ≡ 0
 
 -- all rows are
 pub record Unfolded (a c sums : List ℕ) : Type 0 where
-  pub wide : length sums ≡ 2 * length a + 2
+  pub wide : length sums ≡ 2 * length a + 14
   pub each : (e : ℕ) → e < length sums → getD sums e 0 ≡ total (length a) (meetPadded a c e)
 
 -- 2h remainders by q, to which c X^e can be added

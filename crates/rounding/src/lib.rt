@@ -1,6 +1,8 @@
 // The rounding and hint rules (002, Algorithms 2 to 7), over remainders, for any set.
 pub mod level1;
 
+use residues::divide::quotient;
+use residues::divide::wrap;
 use sets::numbers::Numbers;
 ghost use mathlib.Core.Path.{_≡_};
 ghost use Prim.Native.Nat.{ℕ, _<_, _≤_};
@@ -20,14 +22,14 @@ pub fn split_of(p: Numbers, x: u32) -> Split
     ensures { λ s. ⌜ s ≡ parts p x ⌝ }
 {
     let g = p.gamma2;
-    let u = (x + g) % p.q;
+    let u = wrap(p.q, x + g);
     if u == 0 {
         return Split {
             high: 0,
             low: residues::difference(0, g),
         };
     }
-    let high = (u - 1) / (2 * g);
+    let high = quotient(2 * g, u - 1);
     Split {
         high: high,
         low: residues::difference(u, g + high * (2 * g)),
@@ -41,8 +43,8 @@ pub fn high_of(p: Numbers, x: u32) -> u32
     ensures { λ h. ⌜ h ≡ highBits p (pos x) ⌝ }
 {
     let g = p.gamma2;
-    let u = (x + g) % p.q;
-    if u == 0 { 0 } else { (u - 1) / (2 * g) }
+    let u = wrap(p.q, x + g);
+    if u == 0 { 0 } else { quotient(2 * g, u - 1) }
 }
 
 // The magnitude of the low bits.
@@ -52,11 +54,11 @@ pub fn low_of(p: Numbers, x: u32) -> u32
     ensures { λ m. ⌜ m ≡ natAbs (lowBits p (pos x)) ⌝ }
 {
     let g = p.gamma2;
-    let u = (x + g) % p.q;
+    let u = wrap(p.q, x + g);
     if u == 0 {
         return g;
     }
-    let middle = g + (u - 1) / (2 * g) * (2 * g);
+    let middle = g + quotient(2 * g, u - 1) * (2 * g);
     if middle <= u { u - middle } else { middle - u }
 }
 
@@ -66,7 +68,7 @@ pub fn hint_of(p: Numbers, z: u32, r: u32) -> u32
     requires { ⌜ (z < p .q) × (r < p .q) ⌝ }
     ensures { λ h. ⌜ h ≡ makeHint p (pos z) (pos r) ⌝ }
 {
-    let sum = (r + z) % p.q;
+    let sum = wrap(p.q, r + z);
     if high_of(p, r) == high_of(p, sum) {
         0
     } else {
@@ -85,11 +87,11 @@ pub fn used_of(p: Numbers, h: u32, r: u32) -> u32
     if h == 0 {
         return high;
     }
-    let m = (p.q - 1) / (2 * p.gamma2);
+    let m = quotient(2 * p.gamma2, p.q - 1);
     if 0 < s.low {
-        (high + 1) % m
+        wrap(m, high + 1)
     } else {
-        (high + (m - 1)) % m
+        wrap(m, high + (m - 1))
     }
 }
 

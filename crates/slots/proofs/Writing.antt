@@ -5,7 +5,9 @@ use Prim.Native.Nat.{ℕ, _+_, _*_, _≤_, _<_}
 use native.Mathlib.Omega.{arith}
 use lib.ListN.{length, getD, take, drop, set, length-set}
 use lib.Seq.{getD-append-add, length-take-le, getD-drop}
+use Rattle.sets.specs.Set.{Set}
 use Rattle.buffers.proofs.Copies.{copied-more, copied-all, overlay-all}
+use Rattle.ring.specs.Engine.{Residues}
 use Rattle.slots.specs.Slots.{slot, Within, Wrote}
 use Rattle.slots.proofs.Memory.{length-slot, at-slot, set-kept, set-here}
 
@@ -60,6 +62,13 @@ module _ (n k : ℕ) (new work : List ℕ) where
         ap (λ (x : ℕ). getD (take t new ++ drop t (slot n k work)) x 0) {x = t} {y = length (take t new) + 0} (omega (arith, length-take-le t new (omega (arith, W .whole)))) ∙
         getD-append-add (take t new) (drop t (slot n k work)) 0 0 ∙
         getD-drop t (slot n k work) 0 0 ∙ ap (λ (x : ℕ). getD (slot n k work) x 0) {x = t + 0} {y = t} (omega arith)
+
+    -- both are remainders where the elements that came in are
+    pub other-lt : {p : Set} (j : ℕ) → (j ≡ k → ⊥) → Residues p (slot n j work) → (i : ℕ) → i < n → getD more (j * n + i) 0 < p .q
+    other-lt j d r i l = rw (other-at j d i l) (r .each i)
+
+    pub own-lt : {p : Set} → Residues p (slot n k work) → t < n → getD more (k * n + t) 0 < p .q
+    own-lt r l = rw (own-at l) (r .each t)
 
 -- a place of the memory
 pub place : (n k t : ℕ) (work : List ℕ) → Within n k work → t < n → k * n + t < length work

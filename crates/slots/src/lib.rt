@@ -1,4 +1,6 @@
 // Elements of remainders in one lent memory: element k is the n numbers from k·n on.
+use residues::divide::modulo;
+use residues::divide::wrap;
 use sets::limits;
 use sets::numbers::Numbers;
 ghost use mathlib.Core.Path.{_≡_};
@@ -71,7 +73,7 @@ pub fn add_to(p: Numbers, work: &mut [u32], i: usize, k: usize)
     let mut t: usize = 0;
     while t < p.n {
         let sum = work[to + t] + work[from + t];
-        work[to + t] = sum % p.q;
+        work[to + t] = wrap(p.q, sum);
         t += 1;
     }
 }
@@ -88,7 +90,7 @@ pub fn take_from(p: Numbers, work: &mut [u32], i: usize, k: usize)
     let mut t: usize = 0;
     while t < p.n {
         let rest = work[from + t] + (p.q - work[to + t]);
-        work[to + t] = rest % p.q;
+        work[to + t] = wrap(p.q, rest);
         t += 1;
     }
 }
@@ -106,8 +108,8 @@ pub fn make_hints(p: Numbers, work: &mut [u32], i: usize, j: usize, k: usize)
     let mut t: usize = 0;
     while t < p.n {
         let o = work[other + t];
-        let sum = (work[rest + t] + o) % p.q;
-        work[to + t] = rounding::hint_of(p, (p.q - o) % p.q, sum);
+        let sum = wrap(p.q, work[rest + t] + o);
+        work[to + t] = rounding::hint_of(p, wrap(p.q, p.q - o), sum);
         t += 1;
     }
 }
@@ -119,8 +121,8 @@ fn rest_of(p: Numbers, x: u32, y: u32) -> u32
     ensures { λ r. ⌜ r ≡ (x + (p .q - y * 2 ^ p .d % p .q)) % p .q ⌝ }
 {
     let scaled = (y as u64) * (1u64 << p.d);
-    let less = (scaled % (p.q as u64)) as u32;
-    (x + (p.q - less)) % p.q
+    let less = modulo(p.q, scaled);
+    wrap(p.q, x + (p.q - less))
 }
 
 // Element k = element i - 2^d·element k.

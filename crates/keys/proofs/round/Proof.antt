@@ -4,7 +4,7 @@ use Rattle.keys.proofs.round.Statement.{statement}
 use Rattle.keys.proofs.round.Tie as tie
 
 multiply-requires : tie.Need-multiply-requires
-multiply-requires c κs = (c .before .before .pre .0, ((c .before .before .pre .1 .1 .0, c .before .before .pre .1 .1 .1), search needs))
+multiply-requires c κs = (c .before .before .pre .0, ((c .before .before .pre .1 .1 .1, c .before .before .pre .1 .1 .0), search needs))
 
 add-to-requires : tie.Need-add-to-requires
 add-to-requires c κs = (c .before .before .before .before .before .before .pre .0 .good, ((s2-residues (c .before .before .before .before .before .before .args .p) (c .before .before .before .before .before .before .pre .0) (c .before .before .before .before .before .before .pre .1 .1 .0) (c .before .before .before .before .before .before .pre .1 .1 .1) (c .before .before .before .before .before .before .pre .1 .1 .2) (c .before .before .before .multiply .ensures), product-residues (c .before .before .before .before .before .before .args .p) (c .before .before .before .before .before .before .pre .0) (c .before .before .before .before .before .before .pre .1 .1 .0) (c .before .before .before .before .before .before .pre .1 .1 .1) (c .before .before .before .before .before .before .pre .1 .1 .2) (c .before .before .before .multiply .ensures)), search needs))

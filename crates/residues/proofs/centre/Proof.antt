@@ -1,31 +1,29 @@
--- Up to q/2 the representative is x itself, above it x - q.
-use mathlib.Core.Path.{sym, ap, _∙_}
-use native.Mathlib.Omega.{arith}
-use lib.IntN.{pos}
+use mathlib.Core.Path.{ap, _∙_}
+use lib.IntN.{subℕ}
 use mir.Syntax.{w32}
+use native.Mathlib.Omega.{arith}
 use Rattle.residues.proofs.Machine.{back}
-use Rattle.residues.proofs.Differences.{sub-ge}
-use Rattle.residues.proofs.Centres.{signed-low, signed-high}
+use Rattle.residues.proofs.Centres.{signed-by, taken-most}
 use borrow.Author.Needs.{needs}
 use Rattle.residues.proofs.centre.Statement.{statement}
 use Rattle.residues.proofs.centre.Tie as tie
+use Rattle.residues.proofs.centre.Reads as reads
+use Rattle.residues.proofs.centre.Lts as lts
+use Rattle.residues.proofs.above_half.Reads as above-half-reads
+use Rattle.residues.proofs.difference.Reads as difference-reads
+
+above-half-requires : tie.Need-above-half-requires
+above-half-requires c κs = search needs
 
 difference-requires : tie.Need-difference-requires
-difference-requires c κs = search needs
-
-difference-requires-2 : tie.Need-difference-requires-2
-difference-requires-2 c κs = search needs
+difference-requires c κs =
+    let a = c .before .args in
+    (omega arith, omega (arith, c .above-half .ensures, taken-most (a .q) (a .x)))
 
 returns : tie.Need-returns
 returns c =
     let a = c .before .before .args in
-    back w32 (search needs) ∙ c .difference .ensures ∙ sub-ge {a = a .x} {b = 0} (omega arith) ∙ ap pos (omega arith) ∙
-    sym (signed-low (a .q) (a .x) (c .before .if1 .taken))
-
-returns-2 : tie.Need-returns-2
-returns-2 c =
-    let a = c .before .before .args in
-    back w32 (search needs) ∙ c .difference2 .ensures ∙ sym (signed-high (a .q) (a .x) (c .before .if1 .left))
+    back w32 (search needs) ∙ c .difference .ensures ∙ ap (subℕ (a .x)) (c .before .above-half .ensures) ∙ signed-by (a .q) (a .x)
 
 pub centre-spec : {M : Type 1} → statement M
-centre-spec = tie.close (tie.spec difference-requires difference-requires-2 returns returns-2)
+centre-spec = tie.close (tie.spec above-half-requires difference-requires returns)

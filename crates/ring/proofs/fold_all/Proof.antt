@@ -10,7 +10,7 @@ use Rattle.ring.proofs.fold_all.Statement.{statement}
 use Rattle.ring.proofs.fold_all.Tie as tie
 
 abbrev Inv-loop : tie.InvT-loop
-Inv-loop p sums out₀ half count e₀ out e = (T : Trinomial p) × (half ≡ p .n / 2) × (count ≡ 2 * p .n - 1) × (length sums ≡ 2 * p .n + 2) × (e ≤ count) × Reached p T sums e out
+Inv-loop p sums out₀ half count e₀ out e = (T : Trinomial p) × (half ≡ p .n / 2) × (count ≡ 2 * p .n - 1) × (length sums ≡ 2 * p .n + 14) × (e ≤ count) × Reached p T sums e out
 
 abbrev μ-loop : tie.MeasureT-loop
 μ-loop p sums out₀ half count e₀ out e = count - e
@@ -28,28 +28,19 @@ loop-holds : tie.Need-loop-holds Inv-loop μ-loop
 loop-holds c =
     (c .before .before .before .before .before .before .before .before .pre .0, refl, refl, c .before .before .before .before .before .before .before .before .pre .1 .0, search needs, reached-none _ (c .before .before .before .before .before .before .before .before .pre .0) _ _ (c .before .before .clear-numbers .ensures ∙ ap (λ (n : ℕ). replicate n 0) (c .before .before .before .before .before .before .before .before .pre .1 .1)))
 
-mul-c : tie.Need-mul-c Inv-loop μ-loop
-mul-c c = search needs
+mul-modulo : tie.Need-mul-modulo Inv-loop μ-loop
+mul-modulo c = search needs
 
-shared-slice-read-c : tie.Need-shared-slice-read-c Inv-loop μ-loop
-shared-slice-read-c c = search needs
+shared-slice-read-modulo : tie.Need-shared-slice-read-modulo Inv-loop μ-loop
+shared-slice-read-modulo c = search needs
 
-cast-c : tie.Need-cast-c Inv-loop μ-loop
-cast-c c = search needs
-
-rem-c : tie.Need-rem-c Inv-loop μ-loop
-rem-c c = search needs
-
-cast-c-2 : tie.Need-cast-c-2 Inv-loop μ-loop
-cast-c-2 c =
-    let l = c .before .before .before .loop in
-    let s = c .before .before .before .before .before .before .before .before .before .before .before .before .args .sums .now in
-    omega (arith, mod-lt (getD s (l .e) 0) (q-some _ (l .inv .0)), l .inv .0 .good .qRoom)
+modulo-requires : tie.Need-modulo-requires Inv-loop μ-loop
+modulo-requires c κs = q-some _ (c .before .before .loop .inv .0)
 
 fold-in-requires : tie.Need-fold-in-requires Inv-loop μ-loop
 fold-in-requires c κs =
     let l = c .before .before .before .before .loop in
-    rw (l .inv .1) (can-fold _ (l .inv .0) _ _ (l .e) (l .inv .5) (rw (l .inv .2) at (c .before .before .before .loop-test .taken)))
+    rw (l .inv .1, c .before .modulo .ensures) (can-fold _ (l .inv .0) _ _ (l .e) (l .inv .5) (rw (l .inv .2) at (c .before .before .before .loop-test .taken)))
 
 add-e : tie.Need-add-e Inv-loop μ-loop
 add-e c = search needs
@@ -60,7 +51,7 @@ loop-less c = search needs
 loop-again : tie.Need-loop-again Inv-loop μ-loop
 loop-again c =
     let l = c .before .before .before .before .before .before .before .loop in
-    (l .inv .0, l .inv .1, l .inv .2, l .inv .3, search needs, reached-more _ (l .inv .0) _ _ _ (l .e) (l .inv .5) (rw (l .inv .1) at (c .before .before .fold-in .ensures)))
+    (l .inv .0, l .inv .1, l .inv .2, l .inv .3, search needs, reached-more _ (l .inv .0) _ _ _ (l .e) (l .inv .5) (rw (l .inv .1, c .before .before .before .before .modulo .ensures) at (c .before .before .fold-in .ensures)))
 
 same-length : tie.Need-same-length Inv-loop μ-loop
 same-length c = search needs
@@ -80,11 +71,9 @@ fold-all-spec =
     sub-count
     clear-numbers-requires
     loop-holds
-    mul-c
-    shared-slice-read-c
-    cast-c
-    rem-c
-    cast-c-2
+    mul-modulo
+    shared-slice-read-modulo
+    modulo-requires
     fold-in-requires
     add-e
     loop-less

@@ -11,12 +11,12 @@ use Rattle.ring.proofs.multiply_in.Tie as tie
 pad-requires : tie.Need-pad-requires
 pad-requires c κs = search needs
 
-clear-sums-requires : tie.Need-clear-sums-requires
-clear-sums-requires c κs = search needs
+clear-words-requires : tie.Need-clear-words-requires
+clear-words-requires c κs = search needs
 
 rows-requires : tie.Need-rows-requires
 rows-requires c κs =
-    can-sum _ (c .before .before .before .before .before .before .before .before .before .before .before .before .before .before .before .pre .0) _ _ (c .before .before .before .before .before .before .before .before .before .before .before .before .before .before .before .pre .1 .0 .0) (c .before .before .before .before .before .before .before .before .before .before .before .before .before .before .before .pre .1 .0 .1) _ _ (c .before .before .before .before .before .before .before .before .pad .ensures) (search needs) (λ e. ap (λ (xs : List ℕ). getD xs e 0) (c .before .before .before .before .clear-sums .ensures) ∙ at-zeros (length (c .before .before .before .before .before .before .before .before .before .before .before .before .before .before .before .args .sums .now)) e)
+    can-sum _ (c .before .before .before .before .before .before .before .before .before .before .before .before .before .before .before .pre .0) _ _ (c .before .before .before .before .before .before .before .before .before .before .before .before .before .before .before .pre .1 .0 .0) (c .before .before .before .before .before .before .before .before .before .before .before .before .before .before .before .pre .1 .0 .1) _ _ (c .before .before .before .before .before .before .before .before .pad .ensures) (search needs) (λ e. ap (λ (xs : List ℕ). getD xs e 0) (c .before .before .before .before .clear-words .ensures) ∙ at-zeros (length (c .before .before .before .before .before .before .before .before .before .before .before .before .before .before .before .args .sums .now)) e)
 
 fold-all-requires : tie.Need-fold-all-requires
 fold-all-requires c κs = search needs
@@ -39,7 +39,7 @@ multiply-in-spec =
     tie.close
     (tie.spec
     pad-requires
-    clear-sums-requires
+    clear-words-requires
     rows-requires
     fold-all-requires
     same-length

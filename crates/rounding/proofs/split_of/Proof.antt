@@ -6,7 +6,7 @@ use native.Mathlib.Omega.{arith}
 use lib.IntN.{subℕ}
 use mir.Syntax.{w32}
 use Rattle.residues.proofs.Machine.{back}
-use Rattle.rounding.proofs.Closed.{closed}
+use Rattle.rounding.proofs.Closed.{offset, stepOf, closed}
 use Rattle.rounding.proofs.Room.{Room, room-of}
 use Rattle.rounding.proofs.Small.{step-zero}
 use borrow.Author.Needs.{needs}
@@ -16,11 +16,14 @@ use Rattle.rounding.proofs.split_of.Tie as tie
 room : (c : tie.Start) → Room (c .args .p) (c .args .x)
 room c = room-of (c .args .p) (c .pre .0) (c .args .x)
 
-add-u : tie.Need-add-u
-add-u c = omega (arith, room c)
+high-is : (c : tie.After-quotient) → c .quotient .result ≡ stepOf (c .before .before .before .args .p) (offset (c .before .before .before .args .p) (c .before .before .before .args .x))
+high-is c = c .quotient .ensures ∙ ap (stepOf (c .before .before .before .args .p)) (c .before .before .wrap .ensures)
 
-rem-u : tie.Need-rem-u
-rem-u c = search needs
+add-wrap : tie.Need-add-wrap
+add-wrap c = omega (arith, room c)
+
+wrap-requires : tie.Need-wrap-requires
+wrap-requires c κs = omega (arith, room c)
 
 difference-requires : tie.Need-difference-requires
 difference-requires c κs = omega (arith, room (c .before .before))
@@ -30,7 +33,7 @@ returns c =
     let s = c .before .before .before in
     let g = s .args .p .gamma2 in
     let k = closed (s .args .p) (s .pre .0) (s .args .x) (s .pre .1) in
-    let e = c .before .if1 .taken in
+    let e = sym (c .before .before .wrap .ensures) ∙ c .before .if1 .taken in
     let z : g ≡ g + (0 - 1) / (2 * g) * (2 * g) = rw (zero-div (2 * g)) (omega arith) in
     λ i. record {
       high = (sym (step-zero (s .args .p) _ e) ∙ sym (k .high-is)) i;
@@ -38,47 +41,50 @@ returns c =
           sym (ap (λ (u : ℕ). subℕ u (g + (u - 1) / (2 * g) * (2 * g))) e) ∙ sym (k .low-is)) i;
     }
 
-sub-high : tie.Need-sub-high
-sub-high c = search needs
+mul-quotient : tie.Need-mul-quotient
+mul-quotient c = omega (arith, room (c .before .before))
 
-mul-high : tie.Need-mul-high
-mul-high c = omega (arith, room (c .before .before))
+sub-quotient : tie.Need-sub-quotient
+sub-quotient c = search needs
 
-div-high : tie.Need-div-high
-div-high c = search needs
+quotient-requires : tie.Need-quotient-requires
+quotient-requires c κs = search needs
 
 mul-difference : tie.Need-mul-difference
-mul-difference c = omega (arith, room (c .before .before))
+mul-difference c = omega (arith, room (c .before .before .before))
 
 mul-difference-2 : tie.Need-mul-difference-2
-mul-difference-2 c = omega (arith, room (c .before .before))
+mul-difference-2 c = rw (high-is c) (omega (arith, room (c .before .before .before)))
 
 add-difference : tie.Need-add-difference
-add-difference c = omega (arith, room (c .before .before))
+add-difference c = rw (high-is c) (omega (arith, room (c .before .before .before)))
 
 difference-requires-2 : tie.Need-difference-requires-2
-difference-requires-2 c κs = omega (arith, room (c .before .before))
+difference-requires-2 c κs = rw (high-is c) (omega (arith, room (c .before .before .before)))
 
 returns-2 : tie.Need-returns-2
 returns-2 c =
-    let s = c .before .before .before in
+    let s = c .before .before .before .before in
+    let g = s .args .p .gamma2 in
     let k = closed (s .args .p) (s .pre .0) (s .args .x) (s .pre .1) in
+    let u = c .before .before .before .wrap .ensures in
+    let h = high-is (c .before) in
     λ i. record {
-      high = sym (k .high-is) i;
-      low = (back w32 (search needs) ∙ c .difference2 .ensures ∙ sym (k .low-is)) i;
+      high = (h ∙ sym (k .high-is)) i;
+      low = (back w32 (search needs) ∙ c .difference2 .ensures ∙ (λ j. subℕ (u j) (g + h j * (2 * g))) ∙ sym (k .low-is)) i;
     }
 
 pub split-of-spec : {M : Type 1} → statement M
 split-of-spec =
     tie.close
     (tie.spec
-    add-u
-    rem-u
+    add-wrap
+    wrap-requires
     difference-requires
     returns
-    sub-high
-    mul-high
-    div-high
+    mul-quotient
+    sub-quotient
+    quotient-requires
     mul-difference
     mul-difference-2
     add-difference

@@ -1,4 +1,3 @@
-use Rattle.rounding.proofs.Uses.{use-none, use-up, use-down}
 -- The low bits' sign says which way the hint moves.
 use mathlib.Core.Path.{_≡_, sym, ap, _∙_}
 use mathlib.Core.Bool.{Bool, true, false}
@@ -16,6 +15,7 @@ use Rattle.rounding.specs.Rounding.{decompose, lowBits}
 use Rattle.rounding.proofs.Hints.{high-lt}
 use Rattle.rounding.proofs.Congruent.{q-wide}
 use Rattle.rounding.proofs.Small.{parts-small}
+use Rattle.rounding.proofs.Uses.{use-none, use-up, use-down}
 use borrow.Author.Needs.{needs}
 use Rattle.rounding.proofs.used_of.Statement.{statement}
 use Rattle.rounding.proofs.used_of.Tie as tie
@@ -54,43 +54,44 @@ returns c =
     let s = c .before .before in
     ap (λ (x : Split). x .high) (split-is (c .before)) ∙ sym (use-none (s .args .p) _ (pos (s .args .r)) (c .if1 .taken))
 
-sub-m : tie.Need-sub-m
-sub-m c = search needs
+mul-quotient : tie.Need-mul-quotient
+mul-quotient c = omega (arith, small (c .before .before))
 
-mul-m : tie.Need-mul-m
-mul-m c = omega (arith, small (c .before .before .before))
+sub-quotient : tie.Need-sub-quotient
+sub-quotient c = search needs
 
-div-m : tie.Need-div-m
-div-m c = search needs
+quotient-requires : tie.Need-quotient-requires
+quotient-requires c κs = search needs
 
-add-result : tie.Need-add-result
-add-result c = omega (arith, small (c .before .before .before .before .before .before))
+add-wrap : tie.Need-add-wrap
+add-wrap c = omega (arith, small (c .before .before .before .before .before .before .before))
 
-rem-result : tie.Need-rem-result
-rem-result c = search needs
+wrap-requires : tie.Need-wrap-requires
+wrap-requires c κs = omega (arith, small (c .before .before .before .before .before .before .before))
 
-sub-result : tie.Need-sub-result
-sub-result c = search needs
+sub-wrap : tie.Need-sub-wrap
+sub-wrap c = search needs
 
-add-result-2 : tie.Need-add-result-2
-add-result-2 c = omega (arith, small (c .before .before .before .before .before .before))
+add-wrap-2 : tie.Need-add-wrap-2
+add-wrap-2 c = omega (arith, small (c .before .before .before .before .before .before .before))
 
-rem-result-2 : tie.Need-rem-result-2
-rem-result-2 c = search needs
+wrap-requires-2 : tie.Need-wrap-requires-2
+wrap-requires-2 c κs = omega (arith, small (c .before .before .before .before .before .before .before))
 
 returns-2 : tie.Need-returns-2
 returns-2 c =
-    let d = c .before .before .before .before .before .before in
+    let d = c .before .before .before .before .before .before .before .before in
     let s = d .before in
-    ap (λ (x : Split). (x .high + 1) % steps (s .args .p)) (split-is d) ∙
-    sym (use-up (s .args .p) (s .args .h) (pos (s .args .r)) (c .before .before .before .before .before .if1 .left) (sign d true (c .if2 .taken)))
+    c .wrap .ensures ∙ (λ i. (split-is d i .high + 1) % c .before .before .before .before .quotient .ensures i) ∙
+    sym (use-up (s .args .p) (s .args .h) (pos (s .args .r)) (c .before .before .before .before .before .before .before .if1 .left) (sign d true (c .before .if2 .taken)))
 
 returns-3 : tie.Need-returns-3
 returns-3 c =
-    let d = c .before .before .before .before .before .before in
+    let d = c .before .before .before .before .before .before .before .before in
     let s = d .before in
-    ap (λ (x : Split). (x .high + (steps (s .args .p) - 1)) % steps (s .args .p)) (split-is d) ∙
-    sym (use-down (s .args .p) (s .args .h) (pos (s .args .r)) (c .before .before .before .before .before .if1 .left) (sign d false (c .if2 .left)))
+    let m = c .before .before .before .before .quotient .ensures in
+    c .wrap2 .ensures ∙ (λ i. (split-is d i .high + (m i - 1)) % m i) ∙
+    sym (use-down (s .args .p) (s .args .h) (pos (s .args .r)) (c .before .before .before .before .before .before .before .if1 .left) (sign d false (c .before .if2 .left)))
 
 pub used-of-spec : {M : Type 1} → statement M
 used-of-spec =
@@ -98,13 +99,13 @@ used-of-spec =
     (tie.spec
     split-of-requires
     returns
-    sub-m
-    mul-m
-    div-m
-    add-result
-    rem-result
-    sub-result
-    add-result-2
-    rem-result-2
+    mul-quotient
+    sub-quotient
+    quotient-requires
+    add-wrap
+    wrap-requires
+    sub-wrap
+    add-wrap-2
+    wrap-requires-2
     returns-2
     returns-3)

@@ -7,7 +7,7 @@ use native.Mathlib.Omega.{arith}
 use Rattle.rounding.proofs.Congruent.{q-pos}
 use Rattle.slots.specs.Slots.{slot}
 use Rattle.slots.specs.Elements.{hinted}
-use Rattle.slots.proofs.Writing.{Writing, writing-none, writing-more, writing-all, other-at}
+use Rattle.slots.proofs.Writing.{Writing, writing-none, writing-more, writing-all, other-at, other-lt}
 use borrow.Author.Needs.{needs}
 use Rattle.slots.proofs.make_hints.Statement.{statement}
 use Rattle.slots.proofs.make_hints.Tie as tie
@@ -41,37 +41,47 @@ mul-o c = search needs
 slice-read-o : tie.Need-slice-read-o Inv-loop μ-loop
 slice-read-o c = search needs
 
-add-sum : tie.Need-add-sum Inv-loop μ-loop
-add-sum c = search needs
+add-wrap : tie.Need-add-wrap Inv-loop μ-loop
+add-wrap c = search needs
 
-mul-sum : tie.Need-mul-sum Inv-loop μ-loop
-mul-sum c = search needs
+mul-wrap : tie.Need-mul-wrap Inv-loop μ-loop
+mul-wrap c = search needs
 
-slice-read-sum : tie.Need-slice-read-sum Inv-loop μ-loop
-slice-read-sum c = search needs
+slice-read-wrap : tie.Need-slice-read-wrap Inv-loop μ-loop
+slice-read-wrap c = search needs
 
-add-sum-2 : tie.Need-add-sum-2 Inv-loop μ-loop
-add-sum-2 c =
-    let l = c .before .before .before .before .loop in
-    let a = c .before .before .before .before .before .before .before .before .before .pre .1 .1 in
-    let r = c .before .before .before .before .before .before .before .before .before .pre .1 .0 in
-    omega (arith, other-at _ _ _ _ (l .t) (l .work) (l .inv) _ (a .4) (l .t) (c .before .before .if1 .taken), other-at _ _ _ _ (l .t) (l .work) (l .inv) _ (a .3) (l .t) (c .before .before .if1 .taken), r .0 .each (l .t), r .1 .each (l .t), c .before .before .before .before .before .before .before .before .before .pre .0 .qRoom)
+add-wrap-2 : tie.Need-add-wrap-2 Inv-loop μ-loop
+add-wrap-2 c =
+    let d = c .before .before in
+    let l = d .before .before .loop in
+    let s = d .before .before .before .before .before .before .before .pre in
+    omega (arith, other-lt _ _ _ _ (l .t) (l .work) (l .inv) _ (s .1 .1 .3) (s .1 .0 .0) (l .t) (d .if1 .taken), other-lt _ _ _ _ (l .t) (l .work) (l .inv) _ (s .1 .1 .4) (s .1 .0 .1) (l .t) (d .if1 .taken), s .0 .qRoom)
 
-rem-sum : tie.Need-rem-sum Inv-loop μ-loop
-rem-sum c = omega (arith, q-pos _ (c .before .before .before .before .before .before .before .before .before .before .pre .0))
+wrap-requires : tie.Need-wrap-requires Inv-loop μ-loop
+wrap-requires c κs =
+    let d = c .before .before in
+    let l = d .before .before .loop in
+    let s = d .before .before .before .before .before .before .before .pre in
+    omega (arith, other-lt _ _ _ _ (l .t) (l .work) (l .inv) _ (s .1 .1 .3) (s .1 .0 .0) (l .t) (d .if1 .taken), other-lt _ _ _ _ (l .t) (l .work) (l .inv) _ (s .1 .1 .4) (s .1 .0 .1) (l .t) (d .if1 .taken), s .0 .qRoom)
 
-sub-hint-of : tie.Need-sub-hint-of Inv-loop μ-loop
-sub-hint-of c =
-    let l = c .before .before .before .before .before .before .loop in
-    let a = c .before .before .before .before .before .before .before .before .before .before .before .pre .1 .1 in
-    let r = c .before .before .before .before .before .before .before .before .before .before .before .pre .1 .0 in
-    omega (arith, other-at _ _ _ _ (l .t) (l .work) (l .inv) _ (a .4) (l .t) (c .before .before .before .before .if1 .taken), other-at _ _ _ _ (l .t) (l .work) (l .inv) _ (a .3) (l .t) (c .before .before .before .before .if1 .taken), r .0 .each (l .t), r .1 .each (l .t), c .before .before .before .before .before .before .before .before .before .before .before .pre .0 .qRoom)
+sub-wrap : tie.Need-sub-wrap Inv-loop μ-loop
+sub-wrap c =
+    let d = c .before .before .before .before in
+    let l = d .before .before .loop in
+    let s = d .before .before .before .before .before .before .before .pre in
+    omega (arith, other-lt _ _ _ _ (l .t) (l .work) (l .inv) _ (s .1 .1 .4) (s .1 .0 .1) (l .t) (d .if1 .taken), s .0 .qRoom)
 
-rem-hint-of : tie.Need-rem-hint-of Inv-loop μ-loop
-rem-hint-of c = omega (arith, q-pos _ (c .before .before .before .before .before .before .before .before .before .before .before .before .pre .0))
+wrap-requires-2 : tie.Need-wrap-requires-2 Inv-loop μ-loop
+wrap-requires-2 c κs =
+    let d = c .before .before .before .before in
+    let l = d .before .before .loop in
+    let s = d .before .before .before .before .before .before .before .pre in
+    omega (arith, other-lt _ _ _ _ (l .t) (l .work) (l .inv) _ (s .1 .1 .4) (s .1 .0 .1) (l .t) (d .if1 .taken), s .0 .qRoom)
 
 hint-of-requires : tie.Need-hint-of-requires Inv-loop μ-loop
-hint-of-requires c κs = (c .before .before .before .before .before .before .before .before .before .before .before .before .pre .0, (mod-lt _ (q-pos _ (c .before .before .before .before .before .before .before .before .before .before .before .before .pre .0)), mod-lt _ (q-pos _ (c .before .before .before .before .before .before .before .before .before .before .before .before .pre .0))))
+hint-of-requires c κs =
+    let g = c .before .before .before .before .before .before .before .before .before .before .before .before .pre .0 in
+    (g, (rw (c .wrap2 .ensures) (mod-lt _ (q-pos _ g)), rw (c .before .before .wrap .ensures) (mod-lt _ (q-pos _ g))))
 
 add-work : tie.Need-add-work Inv-loop μ-loop
 add-work c = omega (arith, c .before .before .before .before .before .before .if1 .taken, c .before .before .before .before .before .before .before .before .before .before .before .before .before .pre .0 .nRoom, mul-le-mul (le-of-lt (c .before .before .before .before .before .before .before .before .before .before .before .before .before .pre .1 .1 .2)) (c .before .before .before .before .before .before .before .before .before .before .before .before .before .pre .0 .nRoom))
@@ -91,10 +101,10 @@ loop-less c = search needs
 loop-again : tie.Need-loop-again Inv-loop μ-loop
 unfolding hinted
 loop-again c =
-    let l = c .before .before .before .before .before .before .before .before .loop in
-    let a = c .before .before .before .before .before .before .before .before .before .before .before .before .before .pre .1 .1 in
-    let r = c .before .before .before .before .before .before .before .before .before .before .before .before .before .pre .1 .0 in
-    writing-more _ _ _ _ (l .t) (l .work) (l .inv) _ (c .before .before .before .before .before .before .if1 .taken) (c .hint-of .ensures ∙ rw (other-at _ _ _ _ (l .t) (l .work) (l .inv) _ (a .4) (l .t) (c .before .before .before .before .before .before .if1 .taken), other-at _ _ _ _ (l .t) (l .work) (l .inv) _ (a .3) (l .t) (c .before .before .before .before .before .before .if1 .taken)) (sym (at-tab 0 _ _ (l .t) (c .before .before .before .before .before .before .if1 .taken))))
+    let d = c .before .before .before .before .before .before in
+    let l = d .before .before .loop in
+    let a = d .before .before .before .before .before .before .before .pre .1 .1 in
+    writing-more _ _ _ _ (l .t) (l .work) (l .inv) _ (d .if1 .taken) (c .hint-of .ensures ∙ rw (c .before .wrap2 .ensures, c .before .before .before .wrap .ensures, other-at _ _ _ _ (l .t) (l .work) (l .inv) _ (a .4) (l .t) (d .if1 .taken), other-at _ _ _ _ (l .t) (l .work) (l .inv) _ (a .3) (l .t) (d .if1 .taken)) (sym (at-tab 0 _ _ (l .t) (d .if1 .taken))))
 
 same-length : tie.Need-same-length Inv-loop μ-loop
 same-length c = search needs
@@ -117,13 +127,13 @@ make-hints-spec =
     add-o
     mul-o
     slice-read-o
-    add-sum
-    mul-sum
-    slice-read-sum
-    add-sum-2
-    rem-sum
-    sub-hint-of
-    rem-hint-of
+    add-wrap
+    mul-wrap
+    slice-read-wrap
+    add-wrap-2
+    wrap-requires
+    sub-wrap
+    wrap-requires-2
     hint-of-requires
     add-work
     mul-work

@@ -1,6 +1,5 @@
 use Rattle.slots.proofs.Scaling.{shifted, scaled-room}
-use mathlib.Core.Path.{refl}
-use Prim.Native.Nat.{_*_, _^_}
+use mathlib.Core.Path.{refl, _∙_}
 use native.Mathlib.Nat.{mod-lt, le-of-lt}
 use native.Mathlib.Omega.{arith}
 use Rattle.rounding.proofs.Congruent.{q-pos}
@@ -17,26 +16,20 @@ shl-scaled c = search needs
 mul-scaled : tie.Need-mul-scaled
 mul-scaled c = rw (shifted _ (c .before .pre .0)) (omega (arith, scaled-room _ (c .before .pre .0) _ (c .before .pre .1 .1)))
 
-cast-less : tie.Need-cast-less
-cast-less c = search needs
+modulo-requires : tie.Need-modulo-requires
+modulo-requires c κs = search needs
 
-rem-less : tie.Need-rem-less
-rem-less c = search needs
+sub-wrap : tie.Need-sub-wrap
+sub-wrap c = rw (c .before .modulo .ensures) (le-of-lt (mod-lt _ (q-pos _ (c .before .before .before .pre .0))))
 
-cast-less-2 : tie.Need-cast-less-2
-cast-less-2 c = rw (shifted _ (c .before .before .pre .0)) (omega (arith, mod-lt (c .before .before .args .y * 2 ^ c .before .before .args .p .d) (q-pos _ (c .before .before .pre .0)), c .before .before .pre .0 .qRoom))
+add-wrap : tie.Need-add-wrap
+add-wrap c = search needs
 
-sub-result : tie.Need-sub-result
-sub-result c = rw (shifted _ (c .before .before .before .pre .0)) (le-of-lt (mod-lt (c .before .before .before .args .y * 2 ^ c .before .before .before .args .p .d) (q-pos _ (c .before .before .before .pre .0))))
-
-add-result : tie.Need-add-result
-add-result c = search needs
-
-rem-result : tie.Need-rem-result
-rem-result c = search needs
+wrap-requires : tie.Need-wrap-requires
+wrap-requires c κs = search needs
 
 returns : tie.Need-returns
-returns c = rw (shifted _ (c .before .before .before .before .pre .0)) refl
+returns c = c .wrap .ensures ∙ rw (c .before .before .modulo .ensures, shifted _ (c .before .before .before .before .pre .0)) refl
 
 pub rest-of-spec : {M : Type 1} → statement M
 rest-of-spec =
@@ -45,10 +38,8 @@ rest-of-spec =
     cast-scaled
     shl-scaled
     mul-scaled
-    cast-less
-    rem-less
-    cast-less-2
-    sub-result
-    add-result
-    rem-result
+    modulo-requires
+    sub-wrap
+    add-wrap
+    wrap-requires
     returns)
