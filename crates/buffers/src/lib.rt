@@ -3,6 +3,7 @@ pub mod convert;
 
 ghost use mathlib.Core.Path.{_≡_};
 ghost use Prim.Native.Nat.{min};
+ghost use lib.IntN.{pos};
 ghost use lib.ListN.{length, replicate};
 ghost use Rattle.buffers.specs.Buffers.{overlay};
 
@@ -36,6 +37,18 @@ pub fn copy_numbers(dst: &mut [u32], src: &[u32])
     }
 }
 
+// The same of signed numbers.
+pub fn copy_signed(dst: &mut [i32], src: &[i32])
+    ensures { λ _. ⌜ now (dst .exit) ≡ overlay (now (src .entry)) (now (dst .entry)) ⌝ }
+{
+    let n = shorter(dst.len(), src.len());
+    let mut i: usize = 0;
+    while i < n {
+        dst[i] = src[i];
+        i += 1;
+    }
+}
+
 // Zeros throughout.
 pub fn clear_numbers(dst: &mut [u32])
     ensures { λ _. ⌜ now (dst .exit) ≡ replicate (length (now (dst .entry))) 0 ⌝ }
@@ -44,5 +57,16 @@ pub fn clear_numbers(dst: &mut [u32])
     while i < dst.len() {
         dst[i] = 0;
         i += 1;
+    }
+}
+
+// The same of signed numbers.
+pub fn clear_signed(dst: &mut [i32])
+    ensures { λ _. ⌜ now (dst .exit) ≡ replicate (length (now (dst .entry))) (pos 0) ⌝ }
+{
+    let mut k: usize = 0;
+    while k < dst.len() {
+        dst[k] = 0;
+        k += 1;
     }
 }

@@ -1,16 +1,20 @@
 -- What the samplers draw from SHAKE256's stream is the definition's element.
-use mathlib.Core.Path.{_≡_, refl, sym, ap, subst, _∙_}
+use mathlib.Core.Path.{_≡_, refl, sym, ap, ap₂, subst, _∙_}
 use mathlib.Core.List.{List, [], _∷_, _++_, append-nil, map}
 use Prim.Native.Nat.{ℕ, suc, _/_, _%_, _≤_, _<_}
 use native.Mathlib.Omega.{arith}
 use mathlib.Core.Bool.{Bool, true}
+use lib.IntN.{ℤ, pos}
 use lib.ListN.{length, getD}
 use Rattle.outcome.specs.Outcome.{Is}
 use Rattle.sets.specs.Set.{Set}
 use Rattle.sets.specs.Good.{Good}
+use Rattle.sets.specs.declared.refusal.Refusal.the-variants.{Dry as DryStream}
+use Rattle.sets.specs.Result.{Result, refused}
 use Rattle.shake.specs.Shake.{shake256}
 use Rattle.shake.proofs.Output.{length-shake256}
 use Rattle.residues.specs.Remainder.{residue}
+use Rattle.residues.proofs.Remainders.{residue-small}
 use Rattle.digits.specs.Digits.{digits, codes}
 use Rattle.packing.specs.declared.unpack.Unpacked.{Unpacked}
 use Rattle.packing.specs.declared.unpack.Unpacked.the-variants.{All as AllRead}
@@ -23,37 +27,53 @@ use Rattle.packing.proofs.Reading.{residues-means}
 use Rattle.packing.proofs.Room.{y-readable}
 use Rattle.sampling.specs.declared.Sampled.{Sampled}
 use Rattle.sampling.specs.declared.Sampled.the-variants.{All, Dry}
-use Rattle.sampling.specs.Samplers.{Drawn, drawn, sampleA, sampleS, challenge}
+use Rattle.sampling.specs.Samplers.{drawn, sampleA, sampleS, challenge}
 use Rattle.sampling.specs.Streams.{expandA, expandS, expandY, expandC}
 use Rattle.sampling.specs.Engine.{drawnA, drawnS, drawnC}
-use Rattle.sampling.proofs.Tied.{Tied, answered-all, answered-dry}
+use Rattle.sampling.proofs.Bounds.{q-most}
+use Rattle.sampling.proofs.Drawing.{held-below}
+use Rattle.sampling.proofs.Filling.{said}
 use Rattle.sampling.proofs.Samplings.{tied-a, tied-s, tied-c}
 use Rattle.elements.specs.Expanded.{Got}
 
-got-of : (q : ℕ) (d : Drawn) (o : Sampled × List ℕ) → Tied q d o → (r : Sampled) (out : List ℕ) → Is o r out → Got q (drawn d) r out
-got-of q d o T All out i = let a = answered-all T out i in (a .0, ap drawn (a .1), a .2)
-got-of q d o T Dry out i = ap drawn (answered-dry T out i)
+-- numbers below q are their own remainders
+pub own-back : (q : ℕ) → 0 < q → (xs : List ℕ) → ((k : ℕ) → getD xs k 0 < q) → xs ≡ map (residue q) (map pos xs)
+own-back q some [] h = refl
+own-back q some (x ∷ xs) h = ap₂ _∷_ (sym (residue-small q some x (h 0))) (own-back q some xs (λ k. h (suc k)))
 
 -- the stream is the hash of the parts joined
-module _ (p : Set) (bs old : List ℕ) (r : Sampled) (out : List ℕ) where
-  pub got-a : (ζ : List ℕ) → bs ≡ shake256 (ζ ++ ((0 ∷ 0 ∷ []) ++ [])) (p .astream) → length old ≡ p .n → Is (drawnA p bs old) r out
-      → Got (p .q) (expandA p shake256 ζ) r out
+module _ (p : Set) (bs : List ℕ) (r : Sampled) where
+  drew-a : (xs ζ : List ℕ) → bs ≡ shake256 (ζ ++ ((0 ∷ 0 ∷ []) ++ [])) (p .astream) → Is (drawnA p bs) r xs → expandA p shake256 ζ ≡ drawn (said r (map pos xs))
   unfolding expandA digits
-  got-a ζ e l i = subst (λ (x : List ℕ). Got (p .q) (drawn (sampleA p x)) r out) e (got-of (p .q) (sampleA p bs) (drawnA p bs old) (tied-a p bs old l) r out i)
+  drew-a xs ζ e i = ap (λ (x : List ℕ). drawn (sampleA p x)) (sym e) ∙ ap drawn (tied-a p bs r xs i)
 
-  pub got-s : (ξ : List ℕ) → bs ≡ shake256 (ξ ++ ([] ++ [])) (p .sstream) → length old ≡ p .n → Is (drawnS p bs old) r out
-      → Got (p .q) (expandS p shake256 ξ) r out
+  pub drew-s : (s : List ℤ) (ξ : List ℕ) → bs ≡ shake256 (ξ ++ ([] ++ [])) (p .sstream) → Is (drawnS p bs) r s → expandS p shake256 ξ ≡ drawn (said r s)
   unfolding expandS
-  got-s ξ e l i =
-      subst (λ (x : List ℕ). Got (p .q) (drawn (sampleS p x)) r out) (e ∙ ap (λ (x : List ℕ). shake256 x (p .sstream)) (append-nil ξ))
-      (got-of (p .q) (sampleS p bs) (drawnS p bs old) (tied-s p bs old l) r out i)
+  drew-s s ξ e i =
+      ap (λ (x : List ℕ). drawn (sampleS p x)) (sym (e ∙ ap (λ (x : List ℕ). shake256 x (p .sstream)) (append-nil ξ))) ∙ ap drawn (tied-s p bs r s i)
 
-  pub got-c : (c~ : List ℕ) → bs ≡ shake256 (c~ ++ ([] ++ [])) (p .cstream) → Is (drawnC p bs) r out
-      → Got (p .q) (drawn (expandC p shake256 c~)) r out
+  pub drew-c : (c : List ℤ) (c~ : List ℕ) → bs ≡ shake256 (c~ ++ ([] ++ [])) (p .cstream) → Is (drawnC p bs) r c → drawn (expandC p shake256 c~) ≡ drawn (said r c)
   unfolding expandC
-  got-c c~ e i =
-      subst (λ (x : List ℕ). Got (p .q) (drawn (challenge p x)) r out) (e ∙ ap (λ (x : List ℕ). shake256 x (p .cstream)) (append-nil c~))
-      (got-of (p .q) (challenge p bs) (drawnC p bs) (tied-c p bs) r out i)
+  drew-c c c~ e i =
+      ap (λ (x : List ℕ). drawn (challenge p x)) (sym (e ∙ ap (λ (x : List ℕ). shake256 x (p .cstream)) (append-nil c~))) ∙ ap drawn (tied-c p bs r c i)
+
+  pub got-a : Good p → (out ζ : List ℕ) → bs ≡ shake256 (ζ ++ ((0 ∷ 0 ∷ []) ++ [])) (p .astream) → Is (drawnA p bs) r out → Got (p .q) (expandA p shake256 ζ) r out
+  got-a G out ζ e i = go r (drew-a out ζ e i) (tied-a p bs r out i)
+    where
+      some : 0 < p .q
+      some = omega (arith, q-most p G)
+
+      go : (r : Sampled) → expandA p shake256 ζ ≡ drawn (said r (map pos out)) → sampleA p bs ≡ said r (map pos out) → Got (p .q) (expandA p shake256 ζ) r out
+      go All h t = (map pos out, h, own-back (p .q) some out (held-below p bs out some t))
+      go Dry h t = h
+
+-- numbers that are drawn, and then reduced
+module _ (m : Result (List ℤ)) (r : Sampled) (zs : List ℤ) (e : m ≡ drawn (said r zs)) where
+  pub got-all : r ≡ All → (q : ℕ) (out : List ℕ) → out ≡ map (residue q) zs → Got q m All out
+  got-all a q out h = (zs, e ∙ rw a, h)
+
+  pub got-dry : r ≡ Dry → m ≡ refused DryStream
+  got-dry d = e ∙ rw d
 
 -- ---- y: every code is allowed
 scan-all : {A : Type 0} (d : A) (ok : A → Bool) (i : ℕ) (xs : List A) → ((k : ℕ) → k < length xs → ok (getD xs k d) ≡ true) → scan ok i xs ≡ AllRead

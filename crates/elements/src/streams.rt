@@ -37,13 +37,18 @@ pub fn expand_a(p: Numbers, zeta: &[u8], out: &mut [u32]) -> Sampled
     a_in(p, zeta, &mut stream[..len], out)
 }
 
-fn s_in(p: Numbers, xi: &[u8], stream: &mut [u8], out: &mut [u32]) -> Sampled
+// s, drawn into lent memory and then reduced.
+fn s_in(p: Numbers, xi: &[u8], stream: &mut [u8], s: &mut [i32], out: &mut [u32]) -> Sampled
     requires { ⌜ Good p ⌝ }
-    requires { ⌜ (length (now stream) ≡ p .sstream) × (length (now out) ≡ p .n) ⌝ }
+    requires { ⌜ (length (now stream) ≡ p .sstream) × (length (now s) ≡ p .n) × (length (now out) ≡ p .n) ⌝ }
     ensures { λ r. ⌜ Got (p .q) (expandS p shake256 (now (xi .entry))) r (now (out .exit)) ⌝ }
 {
     shake::shake256(xi, b"", b"", stream);
-    sampling::small::draw_s(p, stream, out)
+    let Sampled::All = sampling::small::draw_s(p, stream, s) else {
+        return Sampled::Dry;
+    };
+    buffers::convert::reduce_all(p.q, s, out);
+    Sampled::All
 }
 
 // "s1 from H(ξ1, 816) and s2 from H(ξ2, 816)"
@@ -54,16 +59,23 @@ pub fn expand_s(p: Numbers, xi: &[u8], out: &mut [u32]) -> Sampled
 {
     let mut stream = [0u8; limits::STREAM];
     let len = p.sstream;
-    s_in(p, xi, &mut stream[..len], out)
+    let mut s = [0i32; limits::CAPACITY];
+    let n = p.n;
+    s_in(p, xi, &mut stream[..len], &mut s[..n], out)
 }
 
-fn c_in(p: Numbers, commitment: &[u8], stream: &mut [u8], out: &mut [u32]) -> Sampled
+// The challenge, drawn into lent memory and then reduced.
+fn c_in(p: Numbers, commitment: &[u8], stream: &mut [u8], c: &mut [i32], out: &mut [u32]) -> Sampled
     requires { ⌜ Good p ⌝ }
-    requires { ⌜ (length (now stream) ≡ p .cstream) × (length (now out) ≡ p .n) ⌝ }
+    requires { ⌜ (length (now stream) ≡ p .cstream) × (length (now c) ≡ p .n) × (length (now out) ≡ p .n) ⌝ }
     ensures { λ r. ⌜ Got (p .q) (drawn (expandC p shake256 (now (commitment .entry)))) r (now (out .exit)) ⌝ }
 {
     shake::shake256(commitment, b"", b"", stream);
-    sampling::challenge::draw_challenge(p, stream, out)
+    let Sampled::All = sampling::challenge::draw_challenge(p, stream, c) else {
+        return Sampled::Dry;
+    };
+    buffers::convert::reduce_all(p.q, c, out);
+    Sampled::All
 }
 
 // "Challenge: stream H(c̃, 544)."
@@ -74,7 +86,9 @@ pub fn expand_c(p: Numbers, commitment: &[u8], out: &mut [u32]) -> Sampled
 {
     let mut stream = [0u8; limits::STREAM];
     let len = p.cstream;
-    c_in(p, commitment, &mut stream[..len], out)
+    let mut c = [0i32; limits::CAPACITY];
+    let n = p.n;
+    c_in(p, commitment, &mut stream[..len], &mut c[..n], out)
 }
 
 fn y_in(p: Numbers, rho: &[u8], kappa: u32, stream: &mut [u8], out: &mut [u32])

@@ -1,18 +1,17 @@
 -- The steps from a, s1 and s2 to the two parts of t.
-use mathlib.Core.Path.{_≡_, refl, sym, ap₂, _∙_}
-use mathlib.Core.List.{List, [], _∷_, map}
-use Prim.Native.Nat.{ℕ, suc, _<_}
+use mathlib.Core.Path.{_≡_, _∙_}
+use mathlib.Core.List.{List, map}
+use Prim.Native.Nat.{ℕ}
 use native.Mathlib.Omega.{arith}
 use lib.IntN.{ℤ, pos}
-use lib.ListN.{getD, length-map}
+use lib.ListN.{length-map}
 use Rattle.sets.specs.Set.{Set}
 use Rattle.sets.specs.Good.{Trinomial}
-use Rattle.residues.specs.Remainder.{residue}
-use Rattle.residues.proofs.Remainders.{residue-small}
 use Rattle.rounding.proofs.Congruent.{q-pos}
 use Rattle.ring.specs.Engine.{multiplied, Residues}
 use Rattle.ring.specs.Profile.{trinomial, mul}
 use Rattle.scheme.specs.Keys.{keyT}
+use Rattle.elements.proofs.Expanding.{own-back}
 use Rattle.slots.specs.Slots.{slot, Wrote}
 use Rattle.slots.specs.Elements.{added, powerHighsOf, powerLowsOf}
 use Rattle.memory.specs.Holds.{Holds}
@@ -21,12 +20,8 @@ use Rattle.keys.specs.Steps.{Rounded}
 
 module _ (p : Set) (T : Trinomial p) where
   -- an element of remainders stands for itself
-  own-back : (xs : List ℕ) → ((k : ℕ) → getD xs k 0 < p .q) → xs ≡ map (residue (p .q)) (map pos xs)
-  own-back [] h = refl
-  own-back (x ∷ xs) h = ap₂ _∷_ (sym (residue-small (p .q) (q-pos p (T .good)) x (h 0))) (own-back xs (λ k. h (suc k)))
-
   own : {k : ℕ} {work : List ℕ} → Residues p (slot (p .n) k work) → Holds p k (map pos (slot (p .n) k work)) work
-  own {k} {work} r = record { long = length-map (slot (p .n) k work) pos ∙ r .long; here = own-back (slot (p .n) k work) (r .each) }
+  own {k} {work} r = record { long = length-map (slot (p .n) k work) pos ∙ r .long; here = own-back (p .q) (q-pos p (T .good)) (slot (p .n) k work) (r .each) }
 
   module _ (work w1 : List ℕ) (m : Wrote (p .n) 3 (multiplied p (slot (p .n) 1 work) (slot (p .n) 0 work)) work w1) where
     module _ (a s1 s2 : List ℤ) (A : Holds p 0 a work) (B : Holds p 1 s1 work) (C : Holds p 2 s2 work) where

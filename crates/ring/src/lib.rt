@@ -124,6 +124,7 @@ fn rows(a: &[u32], b: &[u64], sums: &mut [u64])
         let a0 = a[i];
         next = i + 1;
         if 0 < a0 {
+            // Three more places within reach: each search leaves room for the ones that follow.
             let i1 = past_zeros(a, i + 1, i + 13);
             let i2 = past_zeros(a, i1 + 1, i + 14);
             let i3 = past_zeros(a, i2 + 1, i + REACH);

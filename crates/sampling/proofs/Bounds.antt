@@ -8,7 +8,6 @@ use Rattle.sets.specs.Set.{Set}
 use Rattle.sets.specs.Good.{Good}
 
 module _ (p : Set) (good : Good p) where
-  -- -1 and 1 have different remainders
   pub q-most : 2 < p .q
   q-most = omega (arith, pow-pos (p .d), good .t0Half)
 

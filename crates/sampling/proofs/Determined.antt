@@ -25,7 +25,7 @@ sample-s-one κs a x y s t p q = determined-report _ x y (now (s .1 .0)) (now (t
 pub sample-challenge-one : One 2 sample-challenge-kinds.ps sample-challenge-kinds.r sample-challenge.Post (λ κs s. now (s .1 .0))
 sample-challenge-one κs a x y s t p q = determined-report _ x y (now (s .1 .0)) (now (t .1 .0)) p q
 
--- over remainders, for any set
+-- for any set
 pub draw-a-one : One 2 draw-a-kinds.ps draw-a-kinds.r draw-a.Post (λ κs s. now (s .1 .1 .0))
 draw-a-one κs a x y s t p q = determined _ x y (now (s .1 .1 .0)) (now (t .1 .1 .0)) p q
 

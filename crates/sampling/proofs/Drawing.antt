@@ -1,14 +1,16 @@
 -- What the samplers of a and s draw: n coefficients, each in its range.
-use mathlib.Core.Path.{_≡_, refl, ap}
+use mathlib.Core.Path.{_≡_, refl, sym, ap, _∙_}
 use mathlib.Core.Bool.{Bool, true, false}
-use mathlib.Core.List.{List, [], _∷_}
+use mathlib.Core.List.{List, [], _∷_, map}
+use mathlib.Core.Logic.{⊎-elim}
 use Prim.Native.Nat.{ℕ, zero, suc, _*_, _≤_, _<_}
 use native.Mathlib.Omega.{arith}
 use borrow.Author.Tests.{leb-true, ltb-true}
-use lib.ListN.{length, getD}
+use lib.ListN.{length, getD, length-map, List·getD-map, List·getD-eq-default}
 use lib.IntN.{ℤ, pos, natAbs, _-ℤ_}
 use Rattle.sets.specs.Set.{Set}
 use Rattle.sets.specs.Result.{done}
+use Rattle.residues.proofs.Order.{below-or}
 use Rattle.residues.proofs.Differences.{pos-sub, abs-sub-le}
 use Rattle.sampling.specs.Samplers.{Drawn, dry, drew, also, drawn, first, sampleA, sampleS}
 use Rattle.sampling.specs.Streams.{Hash, expandA, expandS}
@@ -66,6 +68,23 @@ module _ (p : Set) where
   pub drawn-a : (bs : List ℕ) (a : List ℤ) → sampleA p bs ≡ drew a → Each (Plain (p .q)) (p .n) a
   unfolding sampleA
   drawn-a bs a e = first-drawn _ pos (Plain (p .q)) (λ v h. (v, refl, ltb-true v (p .q) h)) _ (p .n) a e
+
+  -- so numbers that stand for a's coefficients are below q
+  pub held-below : (bs xs : List ℕ) → 0 < p .q → sampleA p bs ≡ drew (map pos xs) → (k : ℕ) → getD xs k 0 < p .q
+  held-below bs xs q e k = ⊎-elim in-it past (below-or k (length xs))
+    where
+      E : Each (Plain (p .q)) (p .n) (map pos xs)
+      E = drawn-a bs (map pos xs) e
+
+      in-it : k < length xs → getD xs k 0 < p .q
+      in-it l =
+          let P = E .each k (omega (arith, E .long, length-map xs pos)) in
+          let z : pos (getD xs k 0) ≡ pos (P .0) = sym (List·getD-map pos xs k 0) ∙ P .1 in
+          let v : getD xs k 0 ≡ P .0 = cc in
+          omega (arith, P .2)
+
+      past : length xs ≤ k → getD xs k 0 < p .q
+      past l = rw (List·getD-eq-default xs 0 {n = k} l) q
 
   -- s has n coefficients of magnitude at most η
   pub drawn-s : (bs : List ℕ) (s : List ℤ) → sampleS p bs ≡ drew s → Each (Small (p .eta)) (p .n) s

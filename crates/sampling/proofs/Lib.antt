@@ -6,13 +6,11 @@ pub mod Sparse
 pub mod Masking
 pub mod Set1
 pub mod Edges
--- The code over remainders: what it leaves behind, how that is tied to the definitions, and its loops.
-pub mod Tied
+-- The code: what it leaves behind, how that is tied to the definitions, and its loops.
 pub mod Filling
 pub mod Placing
 pub mod Samplings
 pub mod Reading
-pub mod Remainders
 pub mod Going
 pub mod Taking
 pub mod Stepping

@@ -1,11 +1,12 @@
 -- What is read of a stream: a group in the four bytes from its first on, two bytes, eight bytes.
-use mathlib.Core.Path.{_≡_, sym, ap, _∙_}
-use mathlib.Core.List.{List}
-use Prim.Native.Nat.{ℕ, _+_, _-_, _*_, _%_, _^_, _≤_, _<_}
+use mathlib.Core.Path.{_≡_, refl, sym, ap, ap₂, _∙_}
+use mathlib.Core.List.{List, _∷_}
+use Prim.Native.Nat.{ℕ, zero, suc, _+_, _-_, _*_, _/_, _%_, _^_, _≤_, _<_}
+use native.Mathlib.Nat.{mul-suc, mod-lt}
 use native.Mathlib.Omega.{arith}
-use lib.Pow.{mod-mod-pow, mod-pow-add}
+use lib.Pow.{pow-pos, pow-mono, field, mod-mod-pow, mod-pow-add}
 use lib.ListN.{getD, take, drop}
-use Rattle.digits.specs.Digits.{value}
+use Rattle.digits.specs.Digits.{value, digits, codes}
 use Rattle.digits.proofs.Numbers.{Below, below-all}
 use Rattle.digits.proofs.Windows.{value-take, value-drop, below-drop, four-bytes, one-shifted-in}
 
@@ -17,6 +18,26 @@ group-in-window bs w g small l m = low 4 (omega arith) ∙ sym (low g l)
     low h k =
         ap (λ (x : ℕ). x % 2 ^ w) (sym (value-take h bs (below-all 256 bs small)) ∙ ap (λ (e : ℕ). value 256 bs % 2 ^ e) {x = 8 * h} {y = (8 * h - w) + w} (omega arith)) ∙
         mod-mod-pow (value 256 bs) (8 * h - w) w
+
+-- codes that four bytes have room for are those of the four bytes
+digits-low : (w n m x : ℕ) → w * n ≤ m → digits (2 ^ w) n (x % 2 ^ m) ≡ digits (2 ^ w) n x
+unfolding digits
+digits-low w zero m x l = refl
+digits-low w (suc n) m x l =
+    let s : w * suc n ≡ w * n + w = mul-suc w n in
+    let e : m ≡ (m - w) + w = omega arith in
+    ap₂ _∷_ (ap (λ (k : ℕ). x % 2 ^ k % 2 ^ w) e ∙ mod-mod-pow x (m - w) w)
+    (ap (digits (2 ^ w) n) (ap (λ (k : ℕ). x % 2 ^ k / 2 ^ w) e ∙ field x (m - w) w) ∙ digits-low w n (m - w) (x / 2 ^ w) (omega arith))
+
+pub codes-in-window : (bs : List ℕ) (w n : ℕ) → ((k : ℕ) → getD bs k 0 < 256) → w * n ≤ 32 → digits (2 ^ w) n (value 256 (take 4 bs)) ≡ codes w n bs
+unfolding codes
+codes-in-window bs w n small l = ap (digits (2 ^ w) n) (sym (value-take 4 bs (below-all 256 bs small))) ∙ digits-low w n 32 (value 256 bs) l
+
+-- a code of at most 20 bits, taken from a word, is below half of the word
+pub code-below : (x w : ℕ) → w ≤ 20 → x % 2 ^ w < 2147483648
+code-below x w l =
+    let m : 2 ^ w ≤ 2 ^ 20 = pow-mono l in
+    omega (arith, mod-lt x (pow-pos w))
 
 -- 1 << w, of a 64-bit word
 pub one-shifted : (w : ℕ) → w ≤ 32 → 1 * 2 ^ w % 18446744073709551616 ≡ 2 ^ w

@@ -56,9 +56,9 @@ unfolding magnitudes
 magnitudes-zeros zero = refl
 magnitudes-zeros (suc n) = omega (arith, magnitudes-zeros n)
 
-at-zeros : (n k : ℕ) → getD (replicate n (pos 0)) k (pos 0) ≡ pos 0
-at-zeros n k =
-    ⊎-elim (λ l. getD-replicate n k (pos 0) (pos 0) l) (λ l. List·getD-eq-default (replicate n (pos 0)) (pos 0) (rw length-replicate l))
+pub at-zeros : {A : Type 0} (none : A) (n k : ℕ) → getD (replicate n none) k none ≡ none
+at-zeros none n k =
+    ⊎-elim (λ l. getD-replicate n k none none l) (λ l. List·getD-eq-default (replicate n none) none (rw length-replicate l))
     (below-or k n)
 
 sign-one : (b : ℕ) → natAbs (sign b) ≡ 1
@@ -138,10 +138,10 @@ module _ (p : Set) (good : Good p) (bs : List ℕ) (c : List ℤ) (e : challenge
       (sparse-placed (p .n) _ (p .tau) (p .n - p .tau) _ 0 (replicate (p .n) (pos 0)) c
       (record {
         long = length-replicate (p .n) (pos 0);
-        each = λ k. rw (at-zeros (p .n) k) (omega arith);
+        each = λ k. rw (at-zeros (pos 0) (p .n) k) (omega arith);
         sum = magnitudes-zeros (p .n);
       })
-      (omega (arith, good .few)) (λ k h. at-zeros (p .n) k) e)
+      (omega (arith, good .few)) (λ k h. at-zeros (pos 0) (p .n) k) e)
 
   -- the magnitudes add up to τ, and so many coefficients are not 0
   pub challenge-sum : magnitudes c ≤ p .tau

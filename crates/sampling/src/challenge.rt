@@ -4,11 +4,13 @@ use crate::Sampled;
 use sets::numbers::Numbers;
 ghost use mathlib.Core.Path.{_≡_};
 ghost use Prim.Native.Nat.{_+_, _%_, _<_, _≤_};
+ghost use lib.IntN.{pos};
 ghost use lib.ListN.{length, take, drop, getD, set};
 ghost use Rattle.outcome.specs.Outcome.{Is};
 ghost use Rattle.sets.specs.Good.{Good};
 ghost use Rattle.digits.specs.Digits.{value};
-ghost use Rattle.sampling.specs.Engine.{signOf, drawnC};
+ghost use Rattle.sampling.specs.Samplers.{sign};
+ghost use Rattle.sampling.specs.Engine.{drawnC};
 
 // "Bit k of the first 8 bytes, read as one little-endian number, is the sign of step k"
 fn sign_bits(stream: &[u8]) -> u64
@@ -17,12 +19,11 @@ fn sign_bits(stream: &[u8]) -> u64
     (digits::window(stream, 0) as u64) + 4294967296 * (digits::window(stream, 4) as u64)
 }
 
-// The remainder of 1, or of -1 where the bit is 1.
-fn sign(q: u32, bit: u64) -> u32
-    requires { ⌜ 1 < q ⌝ }
-    ensures { λ r. ⌜ r ≡ signOf q bit ⌝ }
+// "a 1 means -1"
+fn sign(bit: u64) -> i32
+    ensures { λ r. ⌜ r ≡ sign bit ⌝ }
 {
-    if bit == 1 { q - 1 } else { 1 }
+    if bit == 1 { -1 } else { 1 }
 }
 
 // The draw at a place of the stream, below a power of two.
@@ -35,21 +36,21 @@ fn draw(power: usize, stream: &[u8], at: usize) -> usize
 }
 
 // Place i takes the value at j, and j takes v.
-fn put(out: &mut [u32], i: usize, j: usize, v: u32)
+fn put(out: &mut [i32], i: usize, j: usize, v: i32)
     requires { ⌜ (i < length (now out)) × (j ≤ i) ⌝ }
-    ensures { λ _. ⌜ now (out .exit) ≡ set (set (now (out .entry)) i (getD (now (out .entry)) j 0)) j v ⌝ }
+    ensures { λ _. ⌜ now (out .exit) ≡ set (set (now (out .entry)) i (getD (now (out .entry)) j (pos 0))) j v ⌝ }
 {
     out[i] = out[j];
     out[j] = v;
 }
 
 // A draw past its place is drawn again, never reduced.
-pub fn draw_challenge(p: Numbers, stream: &[u8], out: &mut [u32]) -> Sampled
+pub fn draw_challenge(p: Numbers, stream: &[u8], out: &mut [i32]) -> Sampled
     requires { ⌜ Good p ⌝ }
     requires { ⌜ length (now out) ≡ p .n ⌝ }
     ensures { λ r. ⌜ Is (drawnC p (now (stream .entry))) r (now (out .exit)) ⌝ }
 {
-    buffers::clear_numbers(out);
+    buffers::clear_signed(out);
     let wide = p.jbits as u32;
     let power = 1usize << wide;
     let mut place = p.n - p.tau;
@@ -64,7 +65,7 @@ pub fn draw_challenge(p: Numbers, stream: &[u8], out: &mut [u32]) -> Sampled
         let j = draw(power, stream, at);
         at = end;
         if j < past {
-            put(out, place, j, sign(p.q, signs % 2));
+            put(out, place, j, sign(signs % 2));
             place = past;
             signs = signs / 2;
         }

@@ -4,7 +4,6 @@ use sets::refusal::Answer;
 use sets::refusal::Buffer;
 use sets::refusal::Refusal;
 use sets::trinomial1::Trinomial1;
-ghost use mathlib.Core.Path.{_≡_};
 ghost use Rattle.outcome.specs.Outcome.{Is};
 ghost use Rattle.sets.specs.Set.{tri1};
 ghost use Rattle.sets.specs.Refusals.{reportOf};
@@ -34,11 +33,11 @@ pub fn sample_s(stream: &[u8], out: &mut [i32]) -> Answer
     if out.len() != Trinomial1::N {
         return Answer::Refused(Refusal::Length(Buffer::Coefficients));
     }
-    let mut s = [0u32; Trinomial1::N];
+    let mut s = [0i32; Trinomial1::N];
     let Sampled::All = crate::small::draw_s(Trinomial1::numbers(), stream, &mut s) else {
         return Answer::Refused(Refusal::Dry);
     };
-    buffers::convert::store_centred(Trinomial1::Q, &s, out);
+    buffers::copy_signed(out, &s);
     Answer::Done
 }
 
@@ -49,11 +48,11 @@ pub fn sample_challenge(stream: &[u8], out: &mut [i32]) -> Answer
     if out.len() != Trinomial1::N {
         return Answer::Refused(Refusal::Length(Buffer::Coefficients));
     }
-    let mut c = [0u32; Trinomial1::N];
+    let mut c = [0i32; Trinomial1::N];
     let Sampled::All = crate::challenge::draw_challenge(Trinomial1::numbers(), stream, &mut c)
     else {
         return Answer::Refused(Refusal::Dry);
     };
-    buffers::convert::store_centred(Trinomial1::Q, &c, out);
+    buffers::copy_signed(out, &c);
     Answer::Done
 }

@@ -48,7 +48,7 @@ pub record Good (p : Set) : Type 0 where
   pub t1Some : 1 ≤ p .t1bits
   pub sSome : 1 ≤ p .sbits
   pub sGroupSome : 0 < p .sbytes
-  pub sGroupRoom : p .sbytes ≤ 256
+  pub sGroupRoom : p .sbytes ≤ 4
   pub zSome : 1 ≤ p .zbits
   pub w1Some : 1 ≤ p .w1bits
   pub t1Room : p .t1bits ≤ 20

@@ -34,7 +34,7 @@ loop-again c =
     let l = c .before .loop in (
       omega arith,
       length-set (l .words) (l .e) 0 ∙ l .inv .1,
-      ap (λ (xs : List ℕ). set xs (l .e) 0) (l .inv .2) ∙ zeros-more (c .before .before .args .words .now) (l .e) (omega arith),
+      ap (λ (xs : List ℕ). set xs (l .e) 0) (l .inv .2) ∙ zeros-more 0 (c .before .before .args .words .now) (l .e) (omega arith),
     )
 
 same-length : tie.Need-same-length Inv-loop μ-loop
@@ -43,7 +43,7 @@ same-length c = c .before .loop .inv .1
 returns : tie.Need-returns Inv-loop μ-loop
 returns c =
     let l = c .before .loop in
-    l .inv .2 ∙ zeros-all (c .before .before .args .words .now) (l .e) (omega arith) (omega arith)
+    l .inv .2 ∙ zeros-all 0 (c .before .before .args .words .now) (l .e) (omega arith) (omega arith)
 
 pub clear-words-spec : {M : Type 1} → statement M
 clear-words-spec =

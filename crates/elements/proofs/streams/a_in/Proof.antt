@@ -26,7 +26,7 @@ same-length-2 : tie.Need-same-length-2
 same-length-2 c = search needs
 
 returns : tie.Need-returns
-returns c = got-a (c .before .before .before .before .before .before .before .before .before .before .before .before .before .before .args .p) _ _ _ _ (c .before .before .before .before .before .before .before .before .before .before .before .before .before .before .args .zeta .now) (c .before .before .before .before .before .before .before .shake256 .ensures ∙ ap (λ (n : ℕ). shake256 (c .before .before .before .before .before .before .before .before .before .before .before .before .before .before .args .zeta .now ++ ((0 ∷ 0 ∷ []) ++ [])) n) (c .before .before .before .before .before .before .before .before .before .before .before .before .before .before .pre .1 .0)) (c .before .before .before .before .before .before .before .before .before .before .before .before .before .before .pre .1 .1) (c .before .before .draw-a .ensures)
+returns c = got-a (c .before .before .before .before .before .before .before .before .before .before .before .before .before .before .args .p) _ _ (c .before .before .before .before .before .before .before .before .before .before .before .before .before .before .pre .0) _ (c .before .before .before .before .before .before .before .before .before .before .before .before .before .before .args .zeta .now) (c .before .before .before .before .before .before .before .shake256 .ensures ∙ ap (λ (n : ℕ). shake256 (c .before .before .before .before .before .before .before .before .before .before .before .before .before .before .args .zeta .now ++ ((0 ∷ 0 ∷ []) ++ [])) n) (c .before .before .before .before .before .before .before .before .before .before .before .before .before .before .pre .1 .0)) (c .before .before .draw-a .ensures)
 
 pub a-in-spec : {M : Type 1} → statement M
 a-in-spec =

@@ -10,8 +10,14 @@ array-borrow-prefix-stream c = search needs
 slice-aggregate-c-in : tie.Need-slice-aggregate-c-in
 slice-aggregate-c-in c = sym (length-take-le _ _ (c .before .before .before .pre .0 .cHeld))
 
+array-borrow-prefix-c : tie.Need-array-borrow-prefix-c
+array-borrow-prefix-c c = search needs
+
+slice-aggregate-c-in-2 : tie.Need-slice-aggregate-c-in-2
+slice-aggregate-c-in-2 c = sym (length-take-le _ _ (c .before .before .before .before .pre .0 .held))
+
 c-in-requires : tie.Need-c-in-requires
-c-in-requires c κs = (c .before .before .before .before .pre .0 .good, (length-take-le _ _ (c .before .before .before .before .pre .0 .cHeld), c .before .before .before .before .pre .1))
+c-in-requires c κs = (c .before .before .before .before .before .pre .0 .good, (length-take-le _ _ (c .before .before .before .before .before .pre .0 .cHeld), length-take-le _ _ (c .before .before .before .before .before .pre .0 .held), c .before .before .before .before .before .pre .1))
 
 same-length : tie.Need-same-length
 same-length c = search needs
@@ -22,4 +28,11 @@ returns c = search needs
 pub expand-c-spec : {M : Type 1} → statement M
 expand-c-spec =
     tie.close
-    (tie.spec array-borrow-prefix-stream slice-aggregate-c-in c-in-requires same-length returns)
+    (tie.spec
+    array-borrow-prefix-stream
+    slice-aggregate-c-in
+    array-borrow-prefix-c
+    slice-aggregate-c-in-2
+    c-in-requires
+    same-length
+    returns)

@@ -1,8 +1,8 @@
-use mathlib.Core.List.{_++_, []}
-use Rattle.shake.specs.Shake.{shake256}
 use mathlib.Core.Path.{ap, _∙_}
+use mathlib.Core.List.{_++_, []}
 use Prim.Native.Nat.{ℕ}
-use Rattle.elements.proofs.Expanding.{got-s}
+use Rattle.shake.specs.Shake.{shake256}
+use Rattle.elements.proofs.Expanding.{drew-s, got-all, got-dry}
 use borrow.Author.Needs.{needs}
 use Rattle.elements.proofs.streams.s_in.Statement.{statement}
 use Rattle.elements.proofs.streams.s_in.Tie as tie
@@ -19,6 +19,12 @@ shake256-requires c κs = search needs
 draw-s-requires : tie.Need-draw-s-requires
 draw-s-requires c κs = search needs
 
+enum-told : tie.Need-enum-told
+enum-told c = search needs
+
+enum-told-2 : tie.Need-enum-told-2
+enum-told-2 c = search needs
+
 same-length : tie.Need-same-length
 same-length c = search needs
 
@@ -26,7 +32,22 @@ same-length-2 : tie.Need-same-length-2
 same-length-2 c = search needs
 
 returns : tie.Need-returns
-returns c = got-s (c .before .before .before .before .before .before .before .before .before .before .before .before .before .before .args .p) _ _ _ _ (c .before .before .before .before .before .before .before .before .before .before .before .before .before .before .args .xi .now) (c .before .before .before .before .before .before .before .shake256 .ensures ∙ ap (λ (n : ℕ). shake256 (c .before .before .before .before .before .before .before .before .before .before .before .before .before .before .args .xi .now ++ ([] ++ [])) n) (c .before .before .before .before .before .before .before .before .before .before .before .before .before .before .pre .1 .0)) (c .before .before .before .before .before .before .before .before .before .before .before .before .before .before .pre .1 .1) (c .before .before .draw-s .ensures)
+returns c = got-dry _ _ _ (drew-s (c .before .before .before .before .before .before .before .before .before .before .before .before .before .before .before .args .p) _ _ _ (c .before .before .before .before .before .before .before .before .before .before .before .before .before .before .before .args .xi .now) (c .before .before .before .before .before .before .before .before .shake256 .ensures ∙ ap (λ (n : ℕ). shake256 (c .before .before .before .before .before .before .before .before .before .before .before .before .before .before .before .args .xi .now ++ ([] ++ [])) n) (c .before .before .before .before .before .before .before .before .before .before .before .before .before .before .before .pre .1 .0)) (c .before .before .before .draw-s .ensures)) (c .enum-told2 .given .1)
+
+reduce-all-requires : tie.Need-reduce-all-requires
+reduce-all-requires c κs = search needs
+
+same-length-3 : tie.Need-same-length-3
+same-length-3 c = search needs
+
+same-length-4 : tie.Need-same-length-4
+same-length-4 c = search needs
+
+same-length-5 : tie.Need-same-length-5
+same-length-5 c = search needs
+
+returns-2 : tie.Need-returns-2
+returns-2 c = got-all _ _ _ (drew-s (c .before .before .before .before .before .before .before .before .before .before .before .before .before .before .before .before .before .before .before .before .args .p) _ _ _ (c .before .before .before .before .before .before .before .before .before .before .before .before .before .before .before .before .before .before .before .before .args .xi .now) (c .before .before .before .before .before .before .before .before .before .before .before .before .before .shake256 .ensures ∙ ap (λ (n : ℕ). shake256 (c .before .before .before .before .before .before .before .before .before .before .before .before .before .before .before .before .before .before .before .before .args .xi .now ++ ([] ++ [])) n) (c .before .before .before .before .before .before .before .before .before .before .before .before .before .before .before .before .before .before .before .before .pre .1 .0)) (c .before .before .before .before .before .before .before .before .draw-s .ensures)) (c .before .before .before .before .before .enum-told .given .1) _ _ (c .before .before .reduce-all .ensures)
 
 pub s-in-spec : {M : Type 1} → statement M
 s-in-spec =
@@ -36,6 +57,13 @@ s-in-spec =
     slice-aggregate-shake256-2
     shake256-requires
     draw-s-requires
+    enum-told
+    enum-told-2
     same-length
     same-length-2
-    returns)
+    returns
+    reduce-all-requires
+    same-length-3
+    same-length-4
+    same-length-5
+    returns-2)

@@ -2,10 +2,11 @@ use mathlib.Core.Path.{ap, _∙_}
 use Prim.Native.Nat.{ℕ, _+_, _-_, _%_}
 use native.Mathlib.Omega.{arith}
 use lib.Pow.{pow-pos}
+use mir.Facts.{toZ-ofZ}
+use lib.IntN.{pos}
 use lib.ListN.{length, getD, take, drop, set, replicate}
 use Rattle.sets.specs.Good.{Good}
 use Rattle.digits.specs.Digits.{value}
-use Rattle.sampling.proofs.Bounds.{q-most}
 use Rattle.sampling.proofs.Reading.{one-shifted}
 use Rattle.sampling.proofs.Stepping.{Stepping, stepping-none, stepping-all, stepping-dry, stepping-used, stepping-again}
 use borrow.Author.Needs.{needs}
@@ -18,17 +19,17 @@ Inv-loop p stream out₀ wide power place₀ signs₀ at₀ out place signs at =
 abbrev μ-loop : tie.MeasureT-loop
 μ-loop p stream out₀ wide power place₀ signs₀ at₀ out place signs at = length stream + 8 - at
 
-clear-numbers-requires : tie.Need-clear-numbers-requires Inv-loop μ-loop
-clear-numbers-requires c κs = search needs
+clear-signed-requires : tie.Need-clear-signed-requires Inv-loop μ-loop
+clear-signed-requires c κs = search needs
 
 cast-wide : tie.Need-cast-wide Inv-loop μ-loop
-cast-wide c = omega (arith, c .before .before .before .before .before .before .before .pre .0 .jRoom)
+cast-wide c = omega (arith, c .before .before .before .before .before .pre .0 .jRoom)
 
 cast-power : tie.Need-cast-power Inv-loop μ-loop
 cast-power c = search needs
 
 shl-power : tie.Need-shl-power Inv-loop μ-loop
-shl-power c = omega (arith, c .before .before .before .before .before .before .before .pre .0 .jRoom)
+shl-power c = omega (arith, c .before .before .before .before .before .pre .0 .jRoom)
 
 sub-place : tie.Need-sub-place Inv-loop μ-loop
 sub-place c = search needs
@@ -37,7 +38,7 @@ sign-bits-requires : tie.Need-sign-bits-requires Inv-loop μ-loop
 sign-bits-requires c κs = search needs
 
 loop-holds : tie.Need-loop-holds Inv-loop μ-loop
-loop-holds c = (c .before .before .before .before .before .before .before .before .before .pre .0, stepping-none _ _ (c .before .before .before .before .before .before .before .before .before .pre .0) _ (c .before .before .before .before .before .clear-numbers .ensures ∙ ap (λ (k : ℕ). replicate k 0) (c .before .before .before .before .before .before .before .before .before .pre .1)) _ (c .sign-bits .ensures))
+loop-holds c = (c .before .before .before .before .before .before .before .pre .0, stepping-none _ _ (c .before .before .before .before .before .before .before .pre .0) _ (c .before .before .before .before .clear-signed .ensures ∙ ap (λ (k : ℕ). replicate k (pos 0)) (c .before .before .before .before .before .before .before .pre .1)) _ (c .sign-bits .ensures))
 
 add-end : tie.Need-add-end Inv-loop μ-loop
 add-end c = search needs
@@ -52,10 +53,10 @@ returns : tie.Need-returns Inv-loop μ-loop
 returns c = stepping-dry _ _ _ _ _ _ (c .before .before .before .loop .inv .1) (c .before .if1 .taken) (c .if2 .taken)
 
 draw-requires : tie.Need-draw-requires Inv-loop μ-loop
-draw-requires c κs = (omega (arith, one-shifted (c .before .before .before .before .before .before .before .before .before .before .before .before .before .args .p .jbits) (omega (arith, c .before .before .before .before .before .before .before .before .before .before .before .before .before .pre .0 .jRoom)), pow-pos (c .before .before .before .before .before .before .before .before .before .before .before .before .before .args .p .jbits)), c .if2 .left)
+draw-requires c κs = (omega (arith, one-shifted (c .before .before .before .before .before .before .before .before .before .before .before .args .p .jbits) (omega (arith, c .before .before .before .before .before .before .before .before .before .before .before .pre .0 .jRoom)), pow-pos (c .before .before .before .before .before .before .before .before .before .before .before .args .p .jbits)), c .if2 .left)
 
 sign-requires : tie.Need-sign-requires Inv-loop μ-loop
-sign-requires c κs = omega (arith, q-most (c .before .before .before .before .before .before .before .before .before .before .before .before .before .before .before .before .args .p) (c .before .before .before .before .before .before .before .before .before .before .before .before .before .before .before .before .pre .0))
+sign-requires c κs = search needs
 
 put-requires : tie.Need-put-requires Inv-loop μ-loop
 put-requires c κs = omega (arith, c .before .before .before .before .before .before .before .loop .inv .1 .long)
@@ -64,13 +65,13 @@ loop-less : tie.Need-loop-less Inv-loop μ-loop
 loop-less c = search needs
 
 loop-again : tie.Need-loop-again Inv-loop μ-loop
-loop-again c = (c .before .before .before .before .before .before .before .before .before .before .before .before .before .before .before .before .before .before .before .before .pre .0, stepping-used _ _ _ _ _ _ (c .before .before .before .before .before .before .before .before .before .before .loop .inv .1) (λ k. omega (arith, c .before .before .before .before .before .before .before .before .before .before .before .before .before .before .before .before .before .before .before .shared-slice-known .given k)) (c .before .before .before .before .before .before .before .before .if1 .taken) (c .before .before .before .before .before .before .before .if2 .left) _ (c .before .before .before .before .before .before .draw .ensures ∙ ap (λ (k : ℕ). value 256 (take 2 (drop (c .before .before .before .before .before .before .before .before .before .before .loop .at) (c .before .before .before .before .before .before .before .before .before .before .before .before .before .before .before .before .before .before .before .before .args .stream .now))) % k) (one-shifted (c .before .before .before .before .before .before .before .before .before .before .before .before .before .before .before .before .before .before .before .before .args .p .jbits) (omega (arith, c .before .before .before .before .before .before .before .before .before .before .before .before .before .before .before .before .before .before .before .before .pre .0 .jRoom)))) (omega arith) _ (c .before .before .put .ensures ∙ ap (set (set (c .before .before .before .before .before .before .before .before .before .before .loop .out) (c .before .before .before .before .before .before .before .before .before .before .loop .place) (getD (c .before .before .before .before .before .before .before .before .before .before .loop .out) (c .before .before .before .before .before .before .draw .result) 0)) (c .before .before .before .before .before .before .draw .result)) (c .before .before .before .sign .ensures)))
+loop-again c = (c .before .before .before .before .before .before .before .before .before .before .before .before .before .before .before .before .before .pre .0, stepping-used _ _ _ _ _ _ (c .before .before .before .before .before .before .before .before .before .loop .inv .1) (λ k. omega (arith, c .before .before .before .before .before .before .before .before .before .before .before .before .before .before .before .before .shared-slice-known .given k)) (c .before .before .before .before .before .before .before .if1 .taken) (c .before .before .before .before .before .before .if2 .left) _ (c .before .before .before .before .before .draw .ensures ∙ ap (λ (k : ℕ). value 256 (take 2 (drop (c .before .before .before .before .before .before .before .before .before .loop .at) (c .before .before .before .before .before .before .before .before .before .before .before .before .before .before .before .before .before .args .stream .now))) % k) (one-shifted (c .before .before .before .before .before .before .before .before .before .before .before .before .before .before .before .before .before .args .p .jbits) (omega (arith, c .before .before .before .before .before .before .before .before .before .before .before .before .before .before .before .before .before .pre .0 .jRoom)))) (omega arith) _ (c .before .put .ensures ∙ ap (set (set (c .before .before .before .before .before .before .before .before .before .loop .out) (c .before .before .before .before .before .before .before .before .before .loop .place) (getD (c .before .before .before .before .before .before .before .before .before .loop .out) (c .before .before .before .before .before .draw .result) (pos 0))) (c .before .before .before .before .before .draw .result)) (toZ-ofZ (record { sfits = c .before .before .sign .ok }) ∙ c .before .before .sign .ensures)))
 
 loop-less-2 : tie.Need-loop-less-2 Inv-loop μ-loop
 loop-less-2 c = search needs
 
 loop-again-2 : tie.Need-loop-again-2 Inv-loop μ-loop
-loop-again-2 c = (c .before .before .before .before .before .before .before .before .before .before .before .before .before .before .before .pre .0, stepping-again _ _ _ _ _ _ (c .before .before .before .before .before .loop .inv .1) (λ k. omega (arith, c .before .before .before .before .before .before .before .before .before .before .before .before .before .before .shared-slice-known .given k)) (c .before .before .before .if1 .taken) (c .before .before .if2 .left) _ (c .before .draw .ensures ∙ ap (λ (k : ℕ). value 256 (take 2 (drop (c .before .before .before .before .before .loop .at) (c .before .before .before .before .before .before .before .before .before .before .before .before .before .before .before .args .stream .now))) % k) (one-shifted (c .before .before .before .before .before .before .before .before .before .before .before .before .before .before .before .args .p .jbits) (omega (arith, c .before .before .before .before .before .before .before .before .before .before .before .before .before .before .before .pre .0 .jRoom)))) (omega arith))
+loop-again-2 c = (c .before .before .before .before .before .before .before .before .before .before .before .before .before .pre .0, stepping-again _ _ _ _ _ _ (c .before .before .before .before .before .loop .inv .1) (λ k. omega (arith, c .before .before .before .before .before .before .before .before .before .before .before .before .shared-slice-known .given k)) (c .before .before .before .if1 .taken) (c .before .before .if2 .left) _ (c .before .draw .ensures ∙ ap (λ (k : ℕ). value 256 (take 2 (drop (c .before .before .before .before .before .loop .at) (c .before .before .before .before .before .before .before .before .before .before .before .before .before .args .stream .now))) % k) (one-shifted (c .before .before .before .before .before .before .before .before .before .before .before .before .before .args .p .jbits) (omega (arith, c .before .before .before .before .before .before .before .before .before .before .before .before .before .pre .0 .jRoom)))) (omega arith))
 
 same-length-2 : tie.Need-same-length-2 Inv-loop μ-loop
 same-length-2 c = search needs
@@ -84,7 +85,7 @@ draw-challenge-spec =
     (tie.spec
     Inv-loop
     μ-loop
-    clear-numbers-requires
+    clear-signed-requires
     cast-wide
     cast-power
     shl-power

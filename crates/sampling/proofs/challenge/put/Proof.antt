@@ -7,20 +7,20 @@ use Rattle.sampling.proofs.challenge.put.Tie as tie
 mul-out : tie.Need-mul-out
 mul-out c = search needs
 
-slice-read-out : tie.Need-slice-read-out
-slice-read-out c = search needs
+slice-copy-out-out : tie.Need-slice-copy-out-out
+slice-copy-out-out c = search needs
 
-mul-out-2 : tie.Need-mul-out-2
-mul-out-2 c = search needs
+mul-t8 : tie.Need-mul-t8
+mul-t8 c = search needs
 
-slice-write-out : tie.Need-slice-write-out
-slice-write-out c = search needs
+slice-set-from-out : tie.Need-slice-set-from-out
+slice-set-from-out c = search needs
 
-mul-out-3 : tie.Need-mul-out-3
-mul-out-3 c = search needs
+mul-v : tie.Need-mul-v
+mul-v c = search needs
 
-slice-write-out-2 : tie.Need-slice-write-out-2
-slice-write-out-2 c = simp length-set (omega arith)
+slice-set-from-v : tie.Need-slice-set-from-v
+slice-set-from-v c = simp length-set (omega arith)
 
 same-length : tie.Need-same-length
 same-length c = search needs
@@ -33,10 +33,10 @@ put-spec =
     tie.close
     (tie.spec
     mul-out
-    slice-read-out
-    mul-out-2
-    slice-write-out
-    mul-out-3
-    slice-write-out-2
+    slice-copy-out-out
+    mul-t8
+    slice-set-from-out
+    mul-v
+    slice-set-from-v
     same-length
     returns)

@@ -1,10 +1,8 @@
-use mathlib.Core.Path.{refl}
-use native.Mathlib.Omega.{arith}
-use lib.IntN.{pos}
+use mathlib.Core.Path.{refl, sym, _∙_}
 use Rattle.sets.proofs.Five.{good-tri1}
 use Rattle.sets.proofs.Outcomes.{refusing, doing}
 use Rattle.sampling.specs.Samplers.{sampleA}
-use Rattle.sampling.proofs.Calling.{told-a, stored-a, wrong-length, call-dry, held-below, held-long, call-done}
+use Rattle.sampling.proofs.Calling.{told-a, small-a, wrong-length, call-dry, call-done}
 use borrow.Author.Needs.{needs}
 use Rattle.sampling.proofs.level1.sample_a.Statement.{statement}
 use Rattle.sampling.proofs.level1.sample_a.Tie as tie
@@ -28,19 +26,19 @@ enum-told-2 : tie.Need-enum-told-2
 enum-told-2 c = search needs
 
 returns-2 : tie.Need-returns-2
-returns-2 c = refusing _ _ _ (call-dry sampleA (c .before .before .before .before .before .before .before .before .args .stream .now) (c .before .before .before .before .before .before .before .before .args .out .now) (c .before .before .before .before .before .before .if1 .left) _ _ (told-a _ (c .before .before .before .before .before .numbers .ensures) (c .before .before .before .before .before .before .before .before .args .stream .now) _ _ _ refl (c .before .before .before .draw-a .ensures)) (c .enum-told2 .given .1))
+returns-2 c = refusing _ _ _ (call-dry sampleA _ _ (c .before .before .before .before .before .before .if1 .left) _ _ (told-a _ (c .before .before .before .before .before .numbers .ensures) (c .before .before .before .before .before .before .before .before .args .stream .now) _ _ (c .before .before .before .draw-a .ensures)) (c .enum-told2 .given .1))
 
 slice-aggregate-store-plain : tie.Need-slice-aggregate-store-plain
 slice-aggregate-store-plain c = search needs
 
 store-plain-requires : tie.Need-store-plain-requires
-store-plain-requires c κs = ((λ k. omega (arith, held-below sampleA (c .before .before .before .before .before .before .before .before .before .before .args .stream .now) (c .before .before .before .before .before .before .before .before .before .before .args .out .now) (c .before .before .before .before .before .before .before .before .if1 .left) _ _ (told-a _ (c .before .before .before .before .before .before .before .numbers .ensures) (c .before .before .before .before .before .before .before .before .before .before .args .stream .now) _ _ _ refl (c .before .before .before .before .before .draw-a .ensures)) (c .before .before .enum-told .given .1) k)), held-long sampleA (c .before .before .before .before .before .before .before .before .before .before .args .stream .now) (c .before .before .before .before .before .before .before .before .before .before .args .out .now) (c .before .before .before .before .before .before .before .before .if1 .left) _ _ (told-a _ (c .before .before .before .before .before .before .before .numbers .ensures) (c .before .before .before .before .before .before .before .before .before .before .args .stream .now) _ _ _ refl (c .before .before .before .before .before .draw-a .ensures)) (c .before .before .enum-told .given .1) pos (stored-a (c .before .before .before .before .before .before .before .before .before .before .args .stream .now)))
+store-plain-requires c κs = (small-a _ (c .before .before .before .before .before .before .before .numbers .ensures) (c .before .before .before .before .before .before .before .before .before .before .args .stream .now) _ _ (c .before .before .before .before .before .draw-a .ensures) (c .before .before .enum-told .given .1), c .before .before .before .before .before .before .before .before .if1 .left ∙ sym (c .before .before .before .before .before .draw-a .kept .1 .1 .0))
 
 same-length : tie.Need-same-length
 same-length c = search needs
 
 returns-3 : tie.Need-returns-3
-returns-3 c = doing _ _ _ _ (call-done sampleA (c .before .before .before .before .before .before .before .before .before .before .before .before .args .stream .now) (c .before .before .before .before .before .before .before .before .before .before .before .before .args .out .now) (c .before .before .before .before .before .before .before .before .before .before .if1 .left) _ _ (told-a _ (c .before .before .before .before .before .before .before .before .before .numbers .ensures) (c .before .before .before .before .before .before .before .before .before .before .before .before .args .stream .now) _ _ _ refl (c .before .before .before .before .before .before .before .draw-a .ensures)) (c .before .before .before .before .enum-told .given .1) pos (stored-a (c .before .before .before .before .before .before .before .before .before .before .before .before .args .stream .now))) (c .before .store-plain .ensures)
+returns-3 c = doing _ _ _ _ (call-done sampleA _ _ (c .before .before .before .before .before .before .before .before .before .before .if1 .left) _ _ (told-a _ (c .before .before .before .before .before .before .before .before .before .numbers .ensures) (c .before .before .before .before .before .before .before .before .before .before .before .before .args .stream .now) _ _ (c .before .before .before .before .before .before .before .draw-a .ensures)) (c .before .before .before .before .enum-told .given .1)) (c .before .store-plain .ensures)
 
 pub sample-a-spec : {M : Type 1} → statement M
 sample-a-spec =
