@@ -36,7 +36,7 @@ use Rattle.memory.proofs.Holding.{holds-kept, holds-wrote, residues-of}
 use Rattle.memory.proofs.Placing.{part-at}
 use Rattle.scheme.specs.Try.{Signer}
 use Rattle.scheme.specs.Sign.{readSigner, muOf}
-use Rattle.signing.specs.Stages.{Ready, signerIn}
+use Rattle.tries.specs.Stages.{Ready, signerIn}
 
 -- ---- the parts at their places
 module _ (p : Set) (sk : List ℕ) where

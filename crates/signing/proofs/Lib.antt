@@ -1,7 +1,3 @@
-pub mod Stages
-pub mod Norms
-pub mod Judging
-pub mod Trying
 pub mod Sizes
 pub mod Keys
 pub mod Outcomes

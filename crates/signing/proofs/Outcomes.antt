@@ -37,11 +37,11 @@ use Rattle.scheme.specs.Elements.{plus, negated}
 use Rattle.scheme.specs.Try.{Signer, response, masked, hints, try}
 use Rattle.scheme.specs.Sign.{Signed, firstPass, readSigner, muOf, countAt, signTold, signLeft, signOutcome}
 use Rattle.scheme.proofs.Allowed.{kept-z, kept-hint}
-use Rattle.signing.specs.declared.tries.Tried.{Tried}
-use Rattle.signing.specs.declared.tries.Tried.the-variants.{Passed, Spent}
-use Rattle.signing.specs.Stages.{Ready, signerIn, yOf, wOf, Passes, Found}
+use Rattle.tries.specs.declared.Tried.{Tried}
+use Rattle.tries.specs.declared.Tried.the-variants.{Passed, Spent}
+use Rattle.tries.specs.Stages.{Ready, signerIn, yOf, wOf, Passes, Found}
 use Rattle.signing.specs.Calls.{KeyRead, signedFrom}
-use Rattle.signing.proofs.Stages.{ready-of}
+use Rattle.tries.proofs.Stages.{ready-of}
 
 -- ---- a call that refuses, and one that signs
 pub refuses : (limit : ℕ) (m : Result Signed) (r : Refusal) (n : ℕ) (out : List ℕ) → m ≡ refused r → n ≡ countAt limit r

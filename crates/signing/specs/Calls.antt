@@ -10,7 +10,7 @@ use Rattle.shake.specs.Shake.{shake256}
 use Rattle.ring.specs.Profile.{trinomial}
 use Rattle.scheme.specs.Try.{Signer, try}
 use Rattle.scheme.specs.Sign.{Signed, firstPass, muOf, readSigner, countAt}
-use Rattle.signing.specs.Stages.{Ready, signerIn}
+use Rattle.tries.specs.Stages.{Ready, signerIn}
 
 -- the definition's signer lies in the memory, or the definition refuses, before any try
 abbrev pub KeyRead : Set → List ℕ → Answer → List ℕ → Type 0

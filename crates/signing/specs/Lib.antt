@@ -1,3 +1,2 @@
--- What signing's memory holds from stage to stage.
-pub mod Stages
+-- What signing reads and writes around its tries.
 pub mod Calls

@@ -1,3 +1,2 @@
 // Signing (002, Algorithm 9; 01, "Making, signing, checking").
 pub mod sign;
-pub mod tries;

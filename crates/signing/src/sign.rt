@@ -1,5 +1,4 @@
 // Signing as a call: the checks in the order of their numbers, the key, the tries, the signature.
-use crate::tries::Tried;
 use packing::layout::Layout;
 use packing::unpack::Unpacked;
 use sampling::Sampled;
@@ -10,6 +9,7 @@ use sets::refusal::Buffer;
 use sets::refusal::Field;
 use sets::refusal::Refusal;
 use sets::refusal::Signing;
+use tries::Tried;
 ghost use mathlib.Core.Path.{_≡_};
 ghost use mathlib.Core.Bool.{true};
 ghost use mathlib.Core.List.{List, [], _∷_, map};
@@ -25,7 +25,7 @@ ghost use Rattle.packing.specs.Parts.{join, total, secretParts, signatureParts}
 ghost use Rattle.ring.specs.Profile.{trinomial};
 ghost use Rattle.slots.specs.Slots.{slot};
 ghost use Rattle.scheme.specs.Sign.{muOf, rhoOf, signOutcome, sign};
-ghost use Rattle.signing.specs.Stages.{Ready};
+ghost use Rattle.tries.specs.Stages.{Ready};
 ghost use Rattle.signing.specs.Calls.{KeyRead, signedFrom};
 
 const A: usize = 0;
@@ -113,7 +113,7 @@ fn sign_from(
     if let Answer::Refused(r) = read {
         return Signing::Refused(r, 0);
     }
-    let found = crate::tries::first_passing(p, mu, rho, limit, work, commitment);
+    let found = tries::first_passing(p, mu, rho, limit, work, commitment);
     match found {
         Tried::Spent => Signing::Refused(Refusal::Spent, limit),
         Tried::Passed(kappa) => {

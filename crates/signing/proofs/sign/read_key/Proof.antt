@@ -23,10 +23,10 @@ use Rattle.slots.specs.Slots.{Wrote}
 use Rattle.memory.specs.Holds.{Holds}
 use Rattle.scheme.specs.Try.{Signer}
 use Rattle.scheme.specs.Sign.{muOf}
-use Rattle.signing.specs.Stages.{Ready, signerIn}
+use Rattle.tries.specs.Stages.{Ready, signerIn}
 use Rattle.signing.proofs.Sizes.{asks-size, sized, made-readable, secret-total, secret-room}
-use Rattle.signing.proofs.Stages.{within-room}
-use Rattle.signing.proofs.Trying.{room-kept, filled-all, filled-dry}
+use Rattle.tries.proofs.Stages.{within-room}
+use Rattle.tries.proofs.Trying.{room-kept, filled-all, filled-dry}
 use Rattle.signing.proofs.Keys.{part-s1, part-s2, part-t0, part-read, part-bad, bad-s1, bad-s2, bad-t0, dry-a, read-all, signed-back, plain-back, in-a, in-s1, in-s2, in-t0, in-ready, signer-is}
 use Rattle.signing.proofs.sign.read_key.Statement.{statement}
 use Rattle.signing.proofs.sign.read_key.Tie as tie

@@ -2,9 +2,9 @@ use mathlib.Core.Path.{refl, _∙_}
 use native.Mathlib.Omega.{arith}
 use borrow.Author.Needs.{needs}
 use Rattle.sets.specs.declared.refusal.Refusal.the-variants.{Spent}
-use Rattle.signing.specs.Stages.{signerIn}
+use Rattle.tries.specs.Stages.{signerIn}
 use Rattle.signing.specs.Calls.{signedFrom}
-use Rattle.signing.proofs.Trying.{room-kept}
+use Rattle.tries.proofs.Trying.{room-kept}
 use Rattle.signing.proofs.Outcomes.{refuses, signs, key-good, from-bad, from-is, found-spent, found-passed, asks-write, is-signature}
 use Rattle.signing.proofs.sign.sign_from.Statement.{statement}
 use Rattle.signing.proofs.sign.sign_from.Tie as tie

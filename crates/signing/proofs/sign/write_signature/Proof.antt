@@ -1,5 +1,5 @@
 use Rattle.slots.specs.Slots.{slot}
-use Rattle.signing.proofs.Stages.{within}
+use Rattle.tries.proofs.Stages.{within}
 use Rattle.signing.proofs.Sizes.{signature-room, asks-size, sized, made-readable, made-holds, signature-total, signature-written}
 use Rattle.packing.proofs.Room.{z-readable, hint-readable}
 use Rattle.packing.specs.Layouts.{zLayout, hintLayout}

@@ -19,7 +19,7 @@ ghost use lib.IntN.{pos};
 ghost use Rattle.slots.specs.Elements.{added, lessened, highsOf};
 ghost use Rattle.memory.specs.Holds.{Keeps};
 ghost use Rattle.scheme.specs.Try.{Signer};
-ghost use Rattle.signing.specs.Stages.{Ready, signerIn, Upto, commitmentOf, Found};
+ghost use Rattle.tries.specs.Stages.{Ready, signerIn, Upto, commitmentOf, Found};
 
 const A: usize = 0;
 
@@ -113,7 +113,7 @@ fn hint_ones(p: Numbers, work: &[u32]) -> usize
 }
 
 // The tries from κ = 0 on: "A try fails for the first reason that holds", and the first that passes is the answer; no later one is looked at.
-pub(crate) fn first_passing(
+pub fn first_passing(
     p: Numbers,
     mu: &[u8],
     rho: &[u8],

@@ -7,8 +7,8 @@ use Prim.Native.Nat.{ℕ, _≤_}
 use mathlib.Core.Path.{sym, ap, subst, _∙_}
 use Rattle.slots.proofs.Memory.{part-is, length-slot}
 use borrow.Author.Needs.{needs}
-use Rattle.signing.proofs.tries.hint_ones.Statement.{statement}
-use Rattle.signing.proofs.tries.hint_ones.Tie as tie
+use Rattle.tries.proofs.hint_ones.Statement.{statement}
+use Rattle.tries.proofs.hint_ones.Tie as tie
 
 mul-at : tie.Need-mul-at
 mul-at c = search needs

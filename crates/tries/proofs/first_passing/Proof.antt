@@ -10,15 +10,15 @@ use Rattle.rounding.specs.Rounding.{norm, lowBits}
 use Rattle.ring.specs.Profile.{trinomial, mul}
 use Rattle.scheme.specs.Elements.{lows}
 use Rattle.scheme.specs.Try.{response, masked, ChallengeDry, ZLarge, LowLarge, Ct0Large, ManyOnes, try}
-use Rattle.signing.specs.Stages.{Ready, signerIn, yOf, wOf, Upto}
-use Rattle.signing.proofs.Stages.{within, within-room, asks-product, ready-of, stage-z, stage-rest, stage-ct0, stage-hints}
-use Rattle.signing.proofs.Norms.{bound-more, below-place, norm-large, norm-small, centring-large, centring-small, low-large, low-small}
-use Rattle.signing.proofs.Judging.{try-dry, try-z, try-low, try-ct0, try-ones, try-passes}
-use Rattle.signing.proofs.Trying.{Trying, trying-none, trying-ready, trying-key, trying-more, Begun, begun, Drew, drew-one, drew-none, hint-values, hint-bit, room-kept, first-stop, first-end}
+use Rattle.tries.specs.Stages.{Ready, signerIn, yOf, wOf, Upto}
+use Rattle.tries.proofs.Stages.{within, within-room, asks-product, ready-of, stage-z, stage-rest, stage-ct0, stage-hints}
+use Rattle.tries.proofs.Norms.{bound-more, below-place, norm-large, norm-small, centring-large, centring-small, low-large, low-small}
+use Rattle.tries.proofs.Judging.{try-dry, try-z, try-low, try-ct0, try-ones, try-passes}
+use Rattle.tries.proofs.Trying.{Trying, trying-none, trying-ready, trying-key, trying-more, Begun, begun, Drew, drew-one, drew-none, hint-values, hint-bit, room-kept, first-stop, first-end}
 use Rattle.packing.specs.Parts.{ones}
 use Rattle.shake.specs.Shake.{shake256}
-use Rattle.signing.proofs.tries.first_passing.Statement.{statement}
-use Rattle.signing.proofs.tries.first_passing.Tie as tie
+use Rattle.tries.proofs.first_passing.Statement.{statement}
+use Rattle.tries.proofs.first_passing.Tie as tie
 
 abbrev Inv-z : tie.InvT-z
 Inv-z p mu rho limit work commitment next kappa i₀ i = (i ≤ p .n) × ((t : ℕ) → t < i → natAbs (signed (p .q) (getD work (7 * p .n + t) 0)) < p .gamma1 - p .beta)

@@ -1,5 +1,5 @@
 use Rattle.memory.proofs.Holding.{keeps-wrote}
-use Rattle.signing.proofs.Stages.{within-kept, committed, within, asks-w1}
+use Rattle.tries.proofs.Stages.{within-kept, committed, within, asks-w1}
 use Rattle.packing.specs.Layouts.{size}
 use Rattle.packing.specs.Engine.{Readable}
 use Rattle.packing.specs.declared.layout.Layout.{Layout}
@@ -7,8 +7,8 @@ use Rattle.packing.proofs.Room.{w1-readable}
 use mathlib.Core.Path.{sym, ap, subst, _∙_}
 use native.Mathlib.Omega.{arith}
 use borrow.Author.Needs.{needs}
-use Rattle.signing.proofs.tries.commit_in.Statement.{statement}
-use Rattle.signing.proofs.tries.commit_in.Tie as tie
+use Rattle.tries.proofs.commit_in.Statement.{statement}
+use Rattle.tries.proofs.commit_in.Tie as tie
 
 high-bits-requires : tie.Need-high-bits-requires
 high-bits-requires c κs = (c .before .before .before .before .before .pre .0 .0 .good, (c .before .before .before .before .before .pre .0 .1 .each 5 (omega arith), (omega arith, omega arith, λ e. omega arith, within (c .before .before .before .before .before .args .p) (c .before .before .before .before .before .pre .0 .1) 5 (omega arith), within (c .before .before .before .before .before .args .p) (c .before .before .before .before .before .pre .0 .1) 7 (omega arith))))

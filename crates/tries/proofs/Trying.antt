@@ -36,8 +36,8 @@ use Rattle.memory.specs.Holds.{Holds, Keeps}
 use Rattle.scheme.specs.Elements.{plus, negated, highs, makeHints}
 use Rattle.scheme.specs.Try.{Try, passes, fails, Reason, Signer, commit, masked, hints, try}
 use Rattle.scheme.specs.Sign.{firstPass, orNext}
-use Rattle.signing.specs.Stages.{Ready, signerIn, wOf, Upto, commitmentOf}
-use Rattle.signing.proofs.Stages.{upto-keeps, upto-key, upto-less, upto-signer, ready-of, commit-is, stage-c}
+use Rattle.tries.specs.Stages.{Ready, signerIn, wOf, Upto, commitmentOf}
+use Rattle.tries.proofs.Stages.{upto-keeps, upto-key, upto-less, upto-signer, ready-of, commit-is, stage-c}
 
 -- ---- the first try that passes
 module _ (t : ℕ → Try) (next limit : ℕ) where

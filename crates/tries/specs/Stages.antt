@@ -21,8 +21,8 @@ use Rattle.memory.specs.Holds.{Holds}
 use Rattle.scheme.specs.Elements.{plus}
 use Rattle.scheme.specs.Try.{Signer, response, masked, hints, try}
 use Rattle.scheme.specs.Sign.{Signed, firstPass}
-use Rattle.signing.specs.declared.tries.Tried.{Tried}
-use Rattle.signing.specs.declared.tries.Tried.the-variants.{Passed, Spent}
+use Rattle.tries.specs.declared.Tried.{Tried}
+use Rattle.tries.specs.declared.Tried.the-variants.{Passed, Spent}
 
 -- there are 11 elements, and those below m are remainders
 pub record Ready (p : Set) (m : ℕ) (work : List ℕ) : Type 0 where

@@ -2,10 +2,10 @@ use mathlib.Core.Path.{sym, ap, _∙_}
 use Rattle.packing.specs.Layouts.{size}
 use Rattle.packing.specs.declared.layout.Layout.{Layout}
 use lib.Seq.{length-take-le}
-use Rattle.signing.proofs.Stages.{w1-asks, w1-held}
+use Rattle.tries.proofs.Stages.{w1-asks, w1-held}
 use borrow.Author.Needs.{needs}
-use Rattle.signing.proofs.tries.commit.Statement.{statement}
-use Rattle.signing.proofs.tries.commit.Tie as tie
+use Rattle.tries.proofs.commit.Statement.{statement}
+use Rattle.tries.proofs.commit.Tie as tie
 
 w1-requires : tie.Need-w1-requires
 w1-requires c κs = search needs

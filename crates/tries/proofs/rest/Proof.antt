@@ -1,8 +1,8 @@
-use Rattle.signing.proofs.Stages.{asks-two, ready-product, rest-wrote, asks-product}
+use Rattle.tries.proofs.Stages.{asks-two, ready-product, rest-wrote, asks-product}
 use native.Mathlib.Omega.{arith}
 use borrow.Author.Needs.{needs}
-use Rattle.signing.proofs.tries.rest.Statement.{statement}
-use Rattle.signing.proofs.tries.rest.Tie as tie
+use Rattle.tries.proofs.rest.Statement.{statement}
+use Rattle.tries.proofs.rest.Tie as tie
 
 multiply-requires : tie.Need-multiply-requires
 multiply-requires c κs = (c .before .before .pre .0, asks-product (c .before .before .args .p) (c .before .before .pre .1) 6 2 8 (omega arith) (omega arith) (omega arith) (omega arith) (omega arith))

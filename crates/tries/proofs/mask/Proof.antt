@@ -1,9 +1,9 @@
-use Rattle.signing.proofs.Stages.{ready-mask, within, asks-product, stage-y, stage-w}
+use Rattle.tries.proofs.Stages.{ready-mask, within, asks-product, stage-y, stage-w}
 use mathlib.Core.Path.{_∙_}
 use native.Mathlib.Omega.{arith}
 use borrow.Author.Needs.{needs}
-use Rattle.signing.proofs.tries.mask.Statement.{statement}
-use Rattle.signing.proofs.tries.mask.Tie as tie
+use Rattle.tries.proofs.mask.Statement.{statement}
+use Rattle.tries.proofs.mask.Tie as tie
 
 fill-y-requires : tie.Need-fill-y-requires
 fill-y-requires c κs = (c .before .before .before .pre .0 .0, (omega arith, within (c .before .before .before .args .p) (c .before .before .before .pre .0 .1) 4 (omega arith), c .before .before .before .pre .1))

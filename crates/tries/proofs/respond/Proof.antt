@@ -1,8 +1,8 @@
-use Rattle.signing.proofs.Stages.{asks-two, ready-product, sum-wrote, asks-product}
+use Rattle.tries.proofs.Stages.{asks-two, ready-product, sum-wrote, asks-product}
 use native.Mathlib.Omega.{arith}
 use borrow.Author.Needs.{needs}
-use Rattle.signing.proofs.tries.respond.Statement.{statement}
-use Rattle.signing.proofs.tries.respond.Tie as tie
+use Rattle.tries.proofs.respond.Statement.{statement}
+use Rattle.tries.proofs.respond.Tie as tie
 
 multiply-requires : tie.Need-multiply-requires
 multiply-requires c κs = (c .before .before .pre .0, asks-product (c .before .before .args .p) (c .before .before .pre .1) 6 1 7 (omega arith) (omega arith) (omega arith) (omega arith) (omega arith))

@@ -15,7 +15,7 @@ use Rattle.sampling.specs.Samplers.{Drawn, drew, dry}
 use Rattle.sampling.specs.Streams.{expandC}
 use Rattle.scheme.specs.Elements.{highs, lows}
 use Rattle.scheme.specs.Try.{Try, passes, fails, ChallengeDry, ZLarge, LowLarge, Ct0Large, ManyOnes, Signer, response, masked, hints, commit, judged, try}
-use Rattle.signing.specs.Stages.{yOf, wOf}
+use Rattle.tries.specs.Stages.{yOf, wOf}
 
 module _ (p : Set) (S : Signer) (κ : ℕ) (c~ : List ℕ) (e : c~ ≡ commit (trinomial p) shake256 (S .mu) (highs (trinomial p) (wOf p S κ))) where
   abbrev t : Try

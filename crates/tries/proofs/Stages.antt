@@ -35,7 +35,7 @@ use Rattle.memory.proofs.Holding.{holds-kept, holds-wrote, holds-mul, holds-hin
 use Rattle.scheme.specs.Elements.{plus, minus, highs}
 use Rattle.scheme.specs.Try.{Signer, commit}
 use Rattle.scheme.proofs.Allowed.{kept-w1}
-use Rattle.signing.specs.Stages.{Ready, signerIn, yOf, elementAt, Upto, commitmentOf}
+use Rattle.tries.specs.Stages.{Ready, signerIn, yOf, elementAt, Upto, commitmentOf}
 
 length-product : (p : Set) (a b : List ℤ) → length (mul (trinomial p) a b) ≡ p .n
 unfolding product

@@ -1,0 +1,2 @@
+-- What signing's memory holds from stage to stage.
+pub mod Stages
