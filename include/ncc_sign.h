@@ -46,11 +46,11 @@
  * on a painted stack, with the archive for x86-64 (`bench/memory --write` measures and fills in this table):
  *
  * stack table begins
- *     ncc_make_keys            87384
- *     ncc_sign                 91992
- *     ncc_check                90088
+ *     ncc_make_keys            83880
+ *     ncc_sign                 97080
+ *     ncc_check                86584
  *     ncc_shake256              2832
- *     ncc_product              37256
+ *     ncc_product              42216
  *     ncc_high_bits               64
  *     ncc_low_bits                64
  *     ncc_make_hint               64
@@ -58,8 +58,8 @@
  *     ncc_power2_high             64
  *     ncc_power2_low              64
  *     ncc_sample_a              4680
- *     ncc_sample_s              4920
- *     ncc_sample_challenge      4904
+ *     ncc_sample_s              4680
+ *     ncc_sample_challenge      4680
  *     ncc_pack_t1               4664
  *     ncc_unpack_t1             4808
  *     ncc_pack_t0               4664
