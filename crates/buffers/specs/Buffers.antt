@@ -1,5 +1,5 @@
--- One list written over another from the front.
-use Prim.Native.Nat.{ℕ}
+-- One list written over another from the front. The promises of `buffers::copy_bytes`, `copy_numbers` and `copy_signed` rest on this file, and no
+-- definition of the scheme.
 use mathlib.Core.List.{List, _++_}
 use lib.ListN.{length, take, drop}
 

@@ -9,18 +9,18 @@ use borrow.Author.Tests.{eq-eqb, ne-eqb}
 use lib.IntN.{ℤ}
 use lib.ListN.{length, getD, drop, drop-of-length-le}
 use lib.Seq.{drop-cons}
-use Rattle.sets.specs.Set.{Set}
-use Rattle.sets.specs.declared.refusal.Answer.the-variants.{Done, Refused}
-use Rattle.sets.specs.declared.refusal.Refusal.the-variants.{Differs}
-use Rattle.sets.specs.Result.{need, answerOf}
-use Rattle.ring.specs.Profile.{trinomial}
-use Rattle.packing.specs.declared.layout.Layout.{Layout}
-use Rattle.packing.specs.Layouts.{w1Layout, pack}
-use Rattle.packing.specs.Parts.{part, signatureParts}
-use Rattle.sampling.specs.Streams.{Hash}
+use Rattle.sets.specs.Set.{Set, hashSize}
+use Rattle.answers.specs.declared.Answer.the-variants.{Done, Refused}
+use Rattle.answers.specs.declared.Refusal.the-variants.{Differs}
+use Rattle.answers.specs.Result.{need, answerOf}
+use Rattle.packing.specs.declared.parts.Part.the-variants as part
+use Rattle.packing.specs.Parts.{bytesOf}
+use Rattle.streams.specs.Streams.{Hash}
+use Rattle.scheme.specs.Keys.{phOf}
 use Rattle.scheme.specs.Try.{commit}
+use Rattle.scheme.specs.Sign.{mu}
 use Rattle.scheme.specs.Check.{same, muFor}
-use Rattle.checking.specs.Inputs.{Inputs, highsFor, compared}
+use Rattle.checking.specs.Inner.{Inputs, highsFor, compared, Opens}
 
 module _ (xs ys : List ℕ) where
   -- i bytes were the same
@@ -52,27 +52,20 @@ module _ (xs ys : List ℕ) where
     unfolding same
     alike-all l = sym (rw (drop-of-length-le xs l, drop-of-length-le ys {i = i} (omega (arith, A .long)))) ∙ A .rest
 
--- ---- the hashes, with the lengths and the layout that the code made
-module _ (H : Hash) where
-  pub mu-is : (pk M ph mu : List ℕ) (n : ℕ) → n ≡ 64 → ph ≡ H (pk ++ ([] ++ [])) 32 → mu ≡ H (ph ++ (M ++ [])) n → mu ≡ muFor H pk M
-  mu-is pk M ph mu n l e f =
-      f ∙ (λ t. H (e t ++ append-nil M t) (l t)) ∙ ap (λ (x : List ℕ). H (H x 32 ++ M) 64) (append-nil pk)
-
-  pub commit-is : (p : Set) (L : Layout) (mu packed out : List ℕ) (w1 : List ℤ) (n : ℕ) → n ≡ 32 → L ≡ w1Layout p → packed ≡ pack L (p .n) w1
-      → out ≡ H (mu ++ (packed ++ [])) n → out ≡ commit (trinomial p) H mu w1
-  unfolding commit
-  commit-is p L mu packed out w1 n l e f g =
-      g ∙ (λ t. H (mu ++ append-nil packed t) (l t)) ∙ ap (λ (x : List ℕ). H (mu ++ x) 32) (f ∙ ap (λ (k : Layout). pack k (p .n) w1) e)
+-- ---- the commitment, with μ as the code has hashed it
+module _ (p : Set) (H : Hash) (pk M : List ℕ) where
+  pub commit-is : {ph μ out : List ℕ} (w1 : List ℤ) → ph ≡ H (pk ++ ([] ++ [])) hashSize → μ ≡ mu H ph M → out ≡ commit p H μ w1
+      → out ≡ commit p H (muFor H pk M) w1
+  commit-is w1 e f g = g ∙ ap (λ (x : List ℕ). commit p H x w1) (f ∙ (λ t. mu H ((e ∙ ap (phOf H) (append-nil pk)) t) M))
 
 -- ---- the answer
-module _ (p : Set) (H : Hash) (pk σ M : List ℕ) (i : Inputs) (expected : List ℕ) (first : List ℕ)
-    (f : first ≡ part (signatureParts p) 0 σ) (e : expected ≡ commit (trinomial p) H (muFor H pk M) (highsFor p i)) where
-  compared-is : compared p H pk σ M i ≡ need (same first expected) Differs
-  unfolding compared
-  compared-is = (λ t. need (same (sym f t) (sym e t)) Differs)
+module _ (p : Set) (H : Hash) (pk σ M : List ℕ) (i : Inputs) (expected : List ℕ) (first : List ℕ) (O : Opens p σ i)
+    (f : first ≡ bytesOf p part.Commitment σ) (e : expected ≡ commit p H (muFor H pk M) (highsFor p i)) where
+  compared-is : compared p H pk M i ≡ need (same first expected) Differs
+  compared-is = (λ t. need (same ((O ∙ sym f) t) (sym e t)) Differs)
 
-  pub is-same : true ≡ same first expected → Done ≡ answerOf (compared p H pk σ M i)
+  pub is-same : true ≡ same first expected → Done ≡ answerOf (compared p H pk M i)
   is-same s = sym (ap answerOf compared-is ∙ ap (λ b. answerOf (need b Differs)) (sym s))
 
-  pub is-other : false ≡ same first expected → Refused Differs ≡ answerOf (compared p H pk σ M i)
+  pub is-other : false ≡ same first expected → Refused Differs ≡ answerOf (compared p H pk M i)
   is-other s = sym (ap answerOf compared-is ∙ ap (λ b. answerOf (need b Differs)) (sym s))

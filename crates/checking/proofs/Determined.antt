@@ -2,7 +2,7 @@
 -- so the theorem is about the answer alone.
 use mathlib.Core.Path.{refl, sym, _∙_}
 use Rattle.outcome.proofs.One.{One}
-use Rattle.sets.proofs.Reports.{report-one}
+use Rattle.answers.proofs.Reports.{report-one}
 use Rattle.checking.proofs.check.Reads as check
 use Rattle.checking.proofs.check.Kinds as check-kinds
 

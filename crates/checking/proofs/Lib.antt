@@ -1,9 +1,8 @@
--- The code computes what the definition says, and the contract permits one answer.
+-- The definition in the order in which the code goes.
 pub mod Order
-pub mod Places
-pub mod HintBits
+-- What is read and drawn, the high bits, and the comparison.
 pub mod Loading
-pub mod HintsRead
 pub mod Recomputing
 pub mod Comparing
+-- The contract permits one answer.
 pub mod Determined

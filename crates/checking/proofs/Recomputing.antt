@@ -1,120 +1,80 @@
--- The high bits that the hints give, in the memory.
-use mathlib.Core.Path.{_≡_, sym, ap, subst, _∙_}
-use mathlib.Core.Bool.{true}
-use mathlib.Core.List.{List, map}
-use Prim.Native.Nat.{ℕ, _-_, _*_, _≤_, _<_}
+-- The high bits that the hints give, in the memory: w0 to w4 are the memories of the four steps.
+use mathlib.Core.Path.{_≡_, ap, subst, _∙_}
+use mathlib.Core.List.{List}
+use Prim.Native.Nat.{ℕ}
 use native.Mathlib.Omega.{arith}
-use lib.IntN.{ℤ, pos, natAbs}
-use lib.ListN.{getD}
-use Rattle.sets.specs.Set.{Set, steps}
-use Rattle.sets.specs.Good.{Good, Trinomial}
-use Rattle.residues.specs.Remainder.{signed, centred}
-use Rattle.residues.proofs.Centres.{centred-small}
-use Rattle.rounding.specs.Rounding.{useHint}
-use Rattle.rounding.proofs.Hints.{use-lt}
-use Rattle.rounding.proofs.Congruent.{q-pos}
-use Rattle.ring.specs.Ring.{at}
-use Rattle.ring.specs.Engine.{multiplied, Residues}
-use Rattle.ring.specs.Profile.{trinomial, mul}
-use Rattle.ring.proofs.Lists.{at-tab}
-use Rattle.ring.proofs.Signed.{at-reduced}
-use Rattle.packing.specs.declared.layout.Layout.{Layout}
-use Rattle.packing.specs.Layouts.{w1Layout, holds, size}
-use Rattle.packing.specs.Engine.{Readable}
-use Rattle.packing.proofs.Kept.{Kept, kept-plain, holds-of}
-use Rattle.packing.proofs.Room.{w1-readable}
-use Rattle.sampling.specs.Streams.{Hash}
-use Rattle.slots.specs.Slots.{slot, Wrote}
-use Rattle.slots.specs.Elements.{rested, usedHints}
-use Rattle.scheme.specs.Elements.{useHints}
+use lib.IntN.{ℤ}
+use Rattle.sets.specs.Set.{Set}
+use Rattle.sets.specs.Good.{Trinomial}
+use Rattle.ring.specs.Profile.{mul}
+use Rattle.ring.specs.Inner.{Residues}
+use Rattle.packing.specs.Layouts.{w1Layout}
+use Rattle.streams.specs.Streams.{Hash}
 use Rattle.scheme.specs.Try.{commit}
 use Rattle.scheme.specs.Check.{recomputed}
-use Rattle.memory.specs.Holds.{Holds}
-use Rattle.memory.proofs.Holding.{holds-kept, holds-mul, holds-rest, holds-used, residues-of}
-use Rattle.memory.proofs.Bridges.{small-back}
-use Rattle.checking.specs.Inputs.{Inputs, highsFor}
-use Rattle.checking.specs.Loaded.{Loaded}
-use Rattle.checking.proofs.HintBits.{bits-below, bits-plain}
+use Rattle.workspace.specs.declared.Place.{Place}
+use Rattle.workspace.specs.declared.Place.the-variants as place
+use Rattle.workspace.specs.declared.arithmetic.Op.the-variants.{LessScaled, Used}
+use Rattle.workspace.specs.Inner.{slot, Room, Holds, Made, Packable, values, made}
+use Rattle.workspace.proofs.Holding.{holds-kept, room-kept, residues-of}
+use Rattle.workspace.proofs.HintBits.{bits-plain}
+use Rattle.workspace.proofs.Making.{used-bits}
+use Rattle.workspace.proofs.Packing.{Back, back-used}
+use Rattle.checking.specs.Inner.{Inputs, highsFor, Loaded}
 
-module _ (p : Set) (T : Trinomial p) (i : Inputs) (w₀ : List ℕ) (L : Loaded p i w₀) where
-  module _ (w₁ : List ℕ) (W₁ : Wrote (p .n) 5 (multiplied p (slot (p .n) 0 w₀) (slot (p .n) 1 w₀)) w₀ w₁) where
-    az : Holds p 5 (mul (trinomial p) (i .a) (i .z)) w₁
-    az = holds-mul p T (L .a) (L .z) W₁
+-- what a step of two places asks
+abbrev Asks : Set → Place → Place → List ℕ → Type 0
+Asks p i j work = (Trinomial p × Room p work) × (Residues p (slot p i work) × Residues p (slot p j work))
 
-    pub held-c : Holds p 4 (i .c) w₁
-    held-c = holds-kept p (L .c) (W₁ .kept 4 (λ e. omega arith))
+asks : (p : Set) → Trinomial p → (i j : Place) {a b : List ℤ} {work : List ℕ} → Room p work → Holds p i a work → Holds p j b work → Asks p i j work
+asks p T i j room h k = ((T, room), (residues-of p (T .good) h, residues-of p (T .good) k))
 
-    pub held-t1 : Holds p 2 (i .t1) w₁
-    held-t1 = holds-kept p (L .t1) (W₁ .kept 2 (λ e. omega arith))
+module _ (p : Set) (T : Trinomial p) (i : Inputs) (w0 : List ℕ) (room : Room p w0) (L : Loaded p i w0) where
+  pub asks-az : Asks p place.A place.Z w0
+  asks-az = asks p T place.A place.Z room (L .a) (L .z)
 
-    module _ (w₂ : List ℕ) (W₂ : Wrote (p .n) 6 (multiplied p (slot (p .n) 4 w₁) (slot (p .n) 2 w₁)) w₁ w₂) where
-      pub held-az : Holds p 5 (mul (trinomial p) (i .a) (i .z)) w₂
-      held-az = holds-kept p az (W₂ .kept 5 (λ e. omega arith))
+  module _ (w1 : List ℕ) (az : Made p place.A place.Z place.Az (mul p) w0 w1) where
+    pub asks-ct : Asks p place.C place.T1 w1
+    asks-ct =
+        asks p T place.C place.T1 (room-kept (az .touched) room) (holds-kept (az .touched) (λ e. omega arith) (L .c))
+        (holds-kept (az .touched) (λ e. omega arith) (L .t1))
 
-      pub held-ct : Holds p 6 (mul (trinomial p) (i .c) (i .t1)) w₂
-      held-ct = holds-mul p T held-c held-t1 W₂
+    module _ (w2 : List ℕ) (ct : Made p place.C place.T1 place.W1 (mul p) w1 w2) where
+      held-az : Holds p place.Az (mul p (i .a) (i .signature .z)) w2
+      held-az = holds-kept (ct .touched) (λ e. omega arith) (az .here _ _ (L .a) (L .z))
 
-      module _ (w₃ : List ℕ) (W₃ : Wrote (p .n) 6 (rested p (slot (p .n) 5 w₂) (slot (p .n) 6 w₂)) w₂ w₃) where
-        pub held-rest : Holds p 6 (recomputed (trinomial p) (i .a) (i .z) (i .c) (i .t1)) w₃
-        held-rest = holds-rest p T held-az held-ct W₃
+      held-ct : Holds p place.W1 (mul p (i .c) (i .key .t1)) w2
+      held-ct = ct .here _ _ (holds-kept (az .touched) (λ e. omega arith) (L .c)) (holds-kept (az .touched) (λ e. omega arith) (L .t1))
 
-        held-h : Holds p 3 (i .h) w₃
-        held-h = holds-kept p (L .h) (W₃ .kept 3 (λ e. omega arith) ∙ W₂ .kept 3 (λ e. omega arith) ∙ W₁ .kept 3 (λ e. omega arith))
+      pub asks-less : Asks p place.Az place.W1 w2
+      asks-less = asks p T place.Az place.W1 (room-kept (ct .touched) (room-kept (az .touched) room)) held-az held-ct
 
-        pub hint-bits : (t : ℕ) → getD (slot (p .n) 3 w₃) t 0 ≤ 1
-        hint-bits t = subst (λ (xs : List ℕ). getD xs t 0 ≤ 1) (sym (held-h .here)) (bits-below p (T .good) (i .h) (L .bits) t)
+      module _ (w3 : List ℕ) (less : Made p place.Az place.W1 place.W1 (made p LessScaled) w2 w3) where
+        held-less : Holds p place.W1 (recomputed p (i .a) (i .signature .z) (i .c) (i .key .t1)) w3
+        held-less = less .here _ _ held-az held-ct
 
-        pub held-highs : (w₄ : List ℕ) → Wrote (p .n) 6 (usedHints p (slot (p .n) 3 w₃) (slot (p .n) 6 w₃)) w₃ w₄ → Holds p 6 (highsFor p i) w₄
-        held-highs w₄ W₄ = holds-used p T held-h held-rest (λ t l. bits-plain p (T .good) (i .h) (L .bits) t) W₄
+        held-hints : Holds p place.Hints (i .signature .h) w3
+        held-hints =
+            holds-kept (less .touched) (λ e. omega arith)
+            (holds-kept (ct .touched) (λ e. omega arith) (holds-kept (az .touched) (λ e. omega arith) (L .hints)))
 
--- ---- what packing them asks, with the layout that the code made
-pub asks-w1 : (p : Set) → Good p → (L : Layout) → L ≡ w1Layout p → (m : ℕ) → m ≡ size (w1Layout p) (p .n) → (xs : List ℕ)
-    → ((i : ℕ) → i < p .n → holds (w1Layout p) (signed (p .q) (getD xs i 0)) ≡ true)
-    → Readable L (p .q) × (m ≡ size L (p .n)) × ((i : ℕ) → i < p .n → holds L (signed (p .q) (getD xs i 0)) ≡ true)
-asks-w1 p G L e m l xs h =
-    subst (λ (x : Layout). Readable x (p .q) × (m ≡ size x (p .n)) × ((i : ℕ) → i < p .n → holds x (signed (p .q) (getD xs i 0)) ≡ true)) (sym e)
-    (w1-readable p G, l, h)
+        pub asks-used : Asks p place.Hints place.W1 w3
+        asks-used =
+            asks p T place.Hints place.W1 (room-kept (less .touched) (room-kept (ct .touched) (room-kept (az .touched) room))) held-hints held-less
 
--- ---- they are packed as they are
-module _ (p : Set) (T : Trinomial p) (h r : List ℤ) where
-  abbrev high : ℕ → ℕ
-  high k = useHint p (natAbs (at h k)) (at r k)
+        pub held-highs : (w4 : List ℕ) → Made p place.Hints place.W1 place.W1 (made p Used) w3 w4 → Holds p place.W1 (highsFor p i) w4
+        held-highs w4 used =
+            subst (λ (x : List ℤ). Holds p place.W1 x w4)
+            (used-bits p T (i .signature .h) (recomputed p (i .a) (i .signature .z) (i .c) (i .key .t1)) (λ k l. bits-plain p (T .good) (i .signature .h) (L .bits) k))
+            (used .here _ _ held-hints held-less)
 
-  high-at : (k : ℕ) → k < p .n → at (useHints (trinomial p) h r) k ≡ pos (high k)
-  high-at k l = at-tab (pos 0) (p .n) (λ k. pos (useHint p (natAbs (at h k)) (at r k))) k l
+-- they are packed as they are
+module _ (p : Set) (T : Trinomial p) (i : Inputs) (work : List ℕ) (A : Holds p place.W1 (highsFor p i) work) where
+  highs-back : Back p (w1Layout p) place.W1 (highsFor p i) work
+  highs-back = back-used p T (i .signature .h) (recomputed p (i .a) (i .signature .z) (i .c) (i .key .t1)) A
 
-  high-most : (k : ℕ) → high k ≤ steps p - 1
-  high-most k = let l = use-lt p (T .good) (natAbs (at h k)) (at r k) in omega arith
+  pub asks-commit : Packable p (w1Layout p) place.W1 work
+  asks-commit = highs-back .packable
 
-  high-small : (k : ℕ) → k < p .n → 2 * natAbs (at (useHints (trinomial p) h r) k) < p .q
-  high-small k l = rw (high-at k l) (omega (arith, high-most k, w1-readable p (T .good) .most))
-
-  kept-high : (k : ℕ) → Kept (w1Layout p) (pos (high k))
-  kept-high k = kept-plain (p .w1bits) (steps p - 1) (high k) (w1-readable p (T .good) .fits) (high-most k)
-
-  module _ (work : List ℕ) (A : Holds p 6 (useHints (trinomial p) h r) work) where
-    high-back : (k : ℕ) → k < p .n → signed (p .q) (getD (slot (p .n) 6 work) k 0) ≡ pos (high k)
-    unfolding centred
-    high-back k l =
-        ap (λ (xs : List ℕ). signed (p .q) (getD xs k 0)) (A .here) ∙
-        ap (signed (p .q)) (at-reduced p T (useHints (trinomial p) h r) k (omega (arith, A .long))) ∙
-        centred-small (p .q) (q-pos p (T .good)) (at (useHints (trinomial p) h r) k) (high-small k l) ∙
-        high-at k l
-
-    pub highs-hold : (k : ℕ) → k < p .n → holds (w1Layout p) (signed (p .q) (getD (slot (p .n) 6 work) k 0)) ≡ true
-    highs-hold k l = ap (holds (w1Layout p)) (high-back k l) ∙ holds-of (w1Layout p) (pos (high k)) (kept-high k)
-
-    pub highs-back : map (signed (p .q)) (slot (p .n) 6 work) ≡ useHints (trinomial p) h r
-    highs-back = ap (map (signed (p .q))) (A .here) ∙ small-back p T (useHints (trinomial p) h r) (A .long) high-small
-
--- the same of the inputs' high bits
-module _ (p : Set) (T : Trinomial p) (i : Inputs) (work : List ℕ) (A : Holds p 6 (highsFor p i) work) where
-  abbrev rest : List ℤ
-  rest = recomputed (trinomial p) (i .a) (i .z) (i .c) (i .t1)
-
-  pub asks-commit : Residues p (slot (p .n) 6 work) × ((k : ℕ) → k < p .n → holds (w1Layout p) (signed (p .q) (getD (slot (p .n) 6 work) k 0)) ≡ true)
-  asks-commit = (residues-of p T A, highs-hold p T (i .h) rest work A)
-
-  pub expected-is : (H : Hash) (mu out : List ℕ) → out ≡ commit (trinomial p) H mu (map (signed (p .q)) (slot (p .n) 6 work))
-      → out ≡ commit (trinomial p) H mu (highsFor p i)
-  expected-is H mu out e = e ∙ ap (commit (trinomial p) H mu) (highs-back p T (i .h) rest work A)
+  pub expected-is : (H : Hash) (mu out : List ℕ) → out ≡ commit p H mu (values p place.W1 work) → out ≡ commit p H mu (highsFor p i)
+  expected-is H mu out e = e ∙ ap (commit p H mu) (highs-back .same)

@@ -1,3 +1,2 @@
--- Checking as the code goes: five elements one after the other, then the comparison.
-pub mod Inputs
-pub mod Loaded
+-- What checking reads and draws before it compares.
+pub mod Inner

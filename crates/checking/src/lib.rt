@@ -1,61 +1,102 @@
-// Checking (002, Algorithm 10; 01, "Making, signing, checking"), in one lent memory.
-mod commitment;
-mod reading;
-
-use packing::layout::Layout;
+// Checking (SPEC 9) in one lent memory, for any trinomial set.
+use answers::Answer;
+use answers::Buffer;
+use answers::Field;
+use answers::Refusal;
+use packing::parts::Part;
+use packing::parts::Whole;
 use sets::limits;
 use sets::numbers::Numbers;
-use sets::refusal::Answer;
-use sets::refusal::Buffer;
-use sets::refusal::Refusal;
+use workspace::Place;
+use workspace::arithmetic::Op;
+use workspace::arithmetic::combine;
+use workspace::arithmetic::multiply;
+use workspace::drawing::fill_a;
+use workspace::drawing::fill_c;
+use workspace::reading::read_field;
+use workspace::reading::read_hints;
 ghost use mathlib.Core.Path.{_≡_};
-ghost use Prim.Native.Nat.{_*_, _≤_};
 ghost use lib.ListN.{length};
-ghost use Rattle.sets.specs.Good.{Good, Trinomial};
-ghost use Rattle.sets.specs.Refusals.{reportOf};
-ghost use Rattle.sets.specs.Result.{answerOf, told};
-ghost use Rattle.ring.specs.Profile.{trinomial};
-ghost use Rattle.packing.specs.Parts.{total, publicParts, signatureParts};
+ghost use Rattle.sets.specs.Set.{hashSize};
+ghost use Rattle.sets.specs.Good.{Trinomial};
+ghost use Rattle.answers.specs.Refusals.{reportOf};
+ghost use Rattle.answers.specs.Result.{answerOf, told};
+ghost use Rattle.answers.specs.Inner.{Gives};
 ghost use Rattle.shake.specs.Shake.{shake256};
-ghost use Rattle.scheme.specs.Check.{check};
-ghost use Rattle.checking.specs.Inputs.{Inputs, compared};
-ghost use Rattle.checking.specs.Loaded.{Loaded, Ready};
+ghost use Rattle.packing.specs.Layouts.{w1Layout};
+ghost use Rattle.packing.specs.Parts.{publicSize, signatureSize};
+ghost use Rattle.scheme.specs.Try.{commit};
+ghost use Rattle.scheme.specs.Check.{same, muFor, check};
+ghost use Rattle.workspace.specs.declared.Place.the-variants as place;
+ghost use Rattle.workspace.specs.Inner.{Room, Holds, Packable, values};
+ghost use Rattle.checking.specs.Inner.{Inputs, inputs, highsFor, compared, Opens, Loaded};
 
-// The elements of the memory.
-const AT_A: usize = 0;
-
-const AT_Z: usize = 1;
-
-const AT_T1: usize = 2;
-
-const AT_H: usize = 3;
-
-const AT_C: usize = 4;
-
-const AT_AZ: usize = 5;
-
-const AT_W1: usize = 6;
-
-// A commitment, the first part of a signature.
-const COMMITMENT: usize = 32;
-
-// "Public key: ζ, t1"
-fn public_size(p: Numbers) -> usize
-    requires { ⌜ Good p ⌝ }
-    ensures { λ r. ⌜ r ≡ total (publicParts p) ⌝ }
+// t1, z, the hints, a and c, up to the first refusal (SPEC 9.1).
+fn load(p: Numbers, public_key: &[u8], signature: &[u8], work: &mut [u32]) -> Answer
+    requires { ⌜ Trinomial p × Room p (now work) ⌝ }
+    requires { ⌜ (length (now «public_key») ≡ publicSize p) × (length (now signature) ≡ signatureSize p) ⌝ }
+    ensures { λ r. ⌜ Gives (inputs p shake256 (now («public_key» .entry)) (now (signature .entry))) (λ i. Opens p (now (signature .entry)) i × Loaded p i (now (work .exit))) r ⌝ }
 {
-    limits::SEED + Layout::t1(p).size(p.n)
+    let t1 = read_field(p, Field::T1, Part::T1, public_key, work, Place::T1);
+    if let Answer::Refused(refusal) = t1 {
+        return Answer::Refused(refusal);
+    }
+    let z = read_field(p, Field::Z, Part::Z, signature, work, Place::Z);
+    if let Answer::Refused(refusal) = z {
+        return Answer::Refused(refusal);
+    }
+    let hints = read_hints(p, signature, work);
+    if let Answer::Refused(refusal) = hints {
+        return Answer::Refused(refusal);
+    }
+    let a = fill_a(p, Part::PublicZeta.of(p, public_key), work);
+    if let Answer::Refused(refusal) = a {
+        return Answer::Refused(refusal);
+    }
+    fill_c(p, Part::Commitment.of(p, signature), work)
 }
 
-// "Signature: c̃, z, and 1,152 hint bits"
-fn signature_size(p: Numbers) -> usize
-    requires { ⌜ Good p ⌝ }
-    ensures { λ r. ⌜ r ≡ total (signatureParts p) ⌝ }
+// The high bits that the hints give (SPEC 9.3), where w1 stands.
+fn recompute(p: Numbers, work: &mut [u32])
+    requires { ⌜ Trinomial p × Room p (now work) ⌝ }
+    requires { ⌜ ((i : Inputs) × Loaded p i (now work)) ⌝ }
+    ensures { λ _. ⌜ ((i : Inputs) → Loaded p i (now (work .entry)) → Holds p place.W1 (highsFor p i) (now (work .exit))) ⌝ }
 {
-    COMMITMENT + Layout::z(p).size(p.n) + Layout::hint().size(p.n)
+    multiply(p, work, Place::A, Place::Z, Place::Az);
+    multiply(p, work, Place::C, Place::T1, Place::W1);
+    combine(p, Op::LessScaled, work, Place::Az, Place::W1, Place::W1);
+    combine(p, Op::Used, work, Place::Hints, Place::W1, Place::W1);
 }
 
-// The high bits that the hints give are packed, hashed after μ, and compared with c̃.
+// The commitment that they lead to (SPEC 9.4), after μ (SPEC 9.2).
+fn commit(p: Numbers, public_key: &[u8], message: &[u8], work: &[u32], out: &mut [u8])
+    requires { ⌜ Trinomial p × Room p (now work) × Packable p (w1Layout p) place.W1 (now work) ⌝ }
+    requires { ⌜ length (now out) ≡ hashSize ⌝ }
+    ensures { λ _. ⌜ now (out .exit) ≡ commit p shake256 (muFor shake256 (now («public_key» .entry)) (now (message .entry))) (values p place.W1 (now (work .entry))) ⌝ }
+{
+    let mut ph = [0u8; limits::HASH];
+    let mut mu = [0u8; limits::WIDE_HASH];
+    shake::shake256(public_key, b"", b"", &mut ph);
+    workspace::commitment::mu(&ph, message, &mut mu);
+    workspace::commitment::commit(p, &mu, work, out);
+}
+
+// The same bytes. All of them are public.
+fn same(xs: &[u8], ys: &[u8]) -> bool
+    requires { ⌜ length (now xs) ≡ length (now ys) ⌝ }
+    ensures { λ r. ⌜ r ≡ same (now (xs .entry)) (now (ys .entry)) ⌝ }
+{
+    let mut i: usize = 0;
+    while i < xs.len() {
+        if xs[i] != ys[i] {
+            return false;
+        }
+        i += 1;
+    }
+    true
+}
+
+// It is compared with c̃ (SPEC 9.4).
 fn compare(
     p: Numbers,
     public_key: &[u8],
@@ -63,21 +104,20 @@ fn compare(
     message: &[u8],
     work: &mut [u32],
 ) -> Answer
-    requires { ⌜ Trinomial p ⌝ }
-    requires { ⌜ (11 * p .n ≤ length (now work)) × (length (now signature) ≡ total (signatureParts p)) ⌝ }
-    requires { ⌜ Ready p (now work) ⌝ }
-    ensures { λ r. ⌜ ((i : Inputs) → Loaded p i (now (work .entry)) → r ≡ answerOf (compared p shake256 (now («public_key» .entry)) (now (signature .entry)) (now (message .entry)) i)) ⌝ }
+    requires { ⌜ Trinomial p × Room p (now work) ⌝ }
+    requires { ⌜ (length (now signature) ≡ signatureSize p) × ((i : Inputs) × Loaded p i (now work)) ⌝ }
+    ensures { λ r. ⌜ ((i : Inputs) → Opens p (now (signature .entry)) i → Loaded p i (now (work .entry)) → r ≡ answerOf (compared p shake256 (now («public_key» .entry)) (now (message .entry)) i)) ⌝ }
 {
-    let mut expected = [0u8; COMMITMENT];
-    commitment::recompute(p, work);
-    commitment::commit(p, public_key, message, work, &mut expected);
-    if commitment::same(&signature[..COMMITMENT], &expected) {
+    let mut expected = [0u8; limits::HASH];
+    recompute(p, work);
+    commit(p, public_key, message, work, &mut expected);
+    if same(Part::Commitment.of(p, signature), &expected) {
         return Answer::Done;
     }
     Answer::Refused(Refusal::Differs)
 }
 
-// Checks a signature. The lent memory is scratch.
+// The checks in the order of their numbers (SPEC 9.5). The lent memory is scratch.
 pub fn check(
     p: Numbers,
     public_key: &[u8],
@@ -85,22 +125,21 @@ pub fn check(
     message: &[u8],
     work: &mut [u32],
 ) -> Answer
-    requires { ⌜ Trinomial p ⌝ }
-    requires { ⌜ 11 * p .n ≤ length (now work) ⌝ }
-    ensures { λ r. ⌜ reportOf r ≡ told (check (trinomial p) shake256 (now («public_key» .entry)) (now (signature .entry)) (now (message .entry))) ⌝ }
+    requires { ⌜ Trinomial p × Room p (now work) ⌝ }
+    ensures { λ r. ⌜ reportOf r ≡ told (check p shake256 (now («public_key» .entry)) (now (signature .entry)) (now (message .entry))) ⌝ }
 {
-    if public_key.len() != public_size(p) {
+    if public_key.len() != Whole::PublicKey.size(p) {
         return Answer::Refused(Refusal::Length(Buffer::PublicKey));
     }
-    if signature.len() != signature_size(p) {
+    if signature.len() != Whole::Signature.size(p) {
         return Answer::Refused(Refusal::Length(Buffer::Signature));
     }
     if limits::MESSAGE_MAX < message.len() {
         return Answer::Refused(Refusal::LongMessage);
     }
-    let found = reading::load(p, public_key, signature, work);
-    if let Answer::Refused(refusal) = found {
-        return Answer::Refused(refusal);
+    let found = load(p, public_key, signature, work);
+    if let Answer::Refused(why) = found {
+        return Answer::Refused(why);
     }
     compare(p, public_key, signature, message, work)
 }

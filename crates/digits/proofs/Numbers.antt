@@ -2,7 +2,8 @@
 use mathlib.Core.Path.{_≡_, refl, sym, ap, ap₂, _∙_}
 use mathlib.Core.List.{List, [], _∷_}
 use Prim.Native.Nat.{ℕ, zero, suc, _+_, _-_, _*_, _/_, _%_, _^_, _≤_, _<_}
-use native.Mathlib.Nat.{lt-of-lt-of-le, mod-add-div, mod-lt, mod-eq-of-lt, div-eq-of-lt, div-one, div-lt-iff-lt-mul, div-div-eq-div-mul, add-mul-mod-self-left, add-mul-div-left, zero-add, add-comm, mul-comm, pow-zero, pow-suc, pow-succ', div-add-mod, mod-one, sub-self, mul-zero, mul-suc}
+use native.Mathlib.Nat.{lt-of-lt-of-le, mod-add-div, mod-lt, mod-eq-of-lt, div-eq-of-lt, div-one, div-lt-iff-lt-mul, div-div-eq-div-mul, add-mul-mod-self-left}
+use native.Mathlib.Nat.{add-mul-div-left, zero-add, add-comm, mul-comm, pow-zero, pow-suc, pow-succ', div-add-mod, mod-one, sub-self, mul-zero, mul-suc}
 use native.Mathlib.Omega.{arith}
 use lib.Arith.{lt-one, digits-lt}
 use lib.Pow.{pow-pos, pow-mono, pow-add, shr-shr, field, mod-mod-pow, mod-pow-add}
@@ -120,7 +121,9 @@ pub bit-none : (n w : ℕ) → 0 ≡ n % 2 ^ (w - w)
 bit-none n w = rw (sub-self, pow-zero) (sym (mod-one n))
 
 -- the next bit of a field, found in a digit of u bits
-pub next-bit : (u : ℕ) (xs : List ℕ) (base w k v : ℕ) → 0 < u → Below (2 ^ u) xs → 0 < k → k ≤ w → (base + (k - 1)) / u < length xs → v ≡ value (2 ^ u) xs / 2 ^ (base + k) % 2 ^ (w - k) → v * 2 + getD xs ((base + (k - 1)) / u) 0 / 2 ^ ((base + (k - 1)) % u) % 2 ≡ value (2 ^ u) xs / 2 ^ (base + (k - 1)) % 2 ^ (w - (k - 1))
+pub next-bit : (u : ℕ) (xs : List ℕ) (base w k v : ℕ) → 0 < u → Below (2 ^ u) xs → 0 < k → k ≤ w → (base + (k - 1)) / u < length xs →
+    v ≡ value (2 ^ u) xs / 2 ^ (base + k) % 2 ^ (w - k) →
+    v * 2 + getD xs ((base + (k - 1)) / u) 0 / 2 ^ ((base + (k - 1)) % u) % 2 ≡ value (2 ^ u) xs / 2 ^ (base + (k - 1)) % 2 ^ (w - (k - 1))
 next-bit u xs base w k v hu b hk hw l e =
     ap (λ (y : ℕ). v * 2 + y) (bit-at u xs (base + (k - 1)) hu b l) ∙ bit-more (value (2 ^ u) xs) base w k v hk hw e
 

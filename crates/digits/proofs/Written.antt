@@ -12,7 +12,7 @@ use lib.ListN.{length, getD, take, set, length-set}
 use lib.Seq.{take-suc, length-take-le, take-all, getD-set-same, getD-set-other}
 use Rattle.digits.specs.declared.Waiting.{Waiting}
 use Rattle.digits.specs.Digits.{value, digits, bytes, byteCount}
-use Rattle.digits.specs.Engine.{Flushed}
+use Rattle.digits.specs.Inner.{Flushed}
 use Rattle.digits.proofs.Numbers.{below-all, digits-value, pow-mul}
 
 -- one digit more at the top

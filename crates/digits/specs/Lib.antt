@@ -1,3 +1,3 @@
--- Numbers, their digits and their bytes.
+-- Numbers, their digits and their bytes. Inner is for functions inside.
 pub mod Digits
-pub mod Engine
+pub mod Inner

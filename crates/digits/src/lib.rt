@@ -3,7 +3,7 @@ ghost use mathlib.Core.Path.{_≡_};
 ghost use Prim.Native.Nat.{ℕ, _+_, _*_, _/_, _%_, _^_, _≤_, _<_};
 ghost use lib.ListN.{length, getD, take, drop};
 ghost use Rattle.digits.specs.Digits.{value, bytes, byteCount};
-ghost use Rattle.digits.specs.Engine.{Flushed};
+ghost use Rattle.digits.specs.Inner.{Flushed};
 
 fn byte(s: &[u8], i: usize) -> u32
     requires { ⌜ i < length (now s) ⌝ }

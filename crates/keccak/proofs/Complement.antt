@@ -8,7 +8,7 @@ use native.Mathlib.Nat.{mod-mod}
 use lib.ListN.{getD, length}
 use lib.Bits.{bitXor, bitAnd, bitOr, xor-lt, and-le-r}
 use Rattle.keccak.specs.Keccak.{state, lane, rot, parity, effect, offsets, theta, rho, pi, chi, iota, at-origin, round, rounds, constants, keccak}
-use Rattle.keccak.specs.Complement.{signed, differs, sign, flipped, effects, parity-sign, effect-sign, moved-sign, moved, gate, heldLane, heldRound}
+use Rattle.keccak.specs.Inner.{signed, differs, sign, flipped, effects, parity-sign, effect-sign, moved-sign, moved, gate, heldLane, heldRound}
 use Rattle.keccak.proofs.Shape.{below-five, lane-state}
 use Rattle.keccak.proofs.Bits.{xor-not-l, xor-not-r, or-not, rot-not, rot-lt}
 

@@ -1,4 +1,4 @@
-// Keccak-p[1600, 24] of FIPS 202, on five rows of five lanes: place x of row y is the lane A[x, y].
+// Keccak-p[1600, 24] of FIPS 202 (SPEC 4.1 to 4.7), on five rows of five lanes: place x of row y is the lane A[x, y].
 //
 // Between the two calls of `flip` six lanes are held complemented (the Keccak team's lane complementing): then χ can take
 // or for and, and needs the complement of few lanes. A round reads one array and writes another, a row at a time. So few
@@ -8,9 +8,9 @@ ghost use mathlib.Core.Path.{_≡_};
 ghost use mathlib.Core.List.{[], _∷_};
 ghost use lib.ListN.{length};
 ghost use Rattle.keccak.specs.Keccak.{keccak, row};
-ghost use Rattle.keccak.specs.Complement.{flipped, effects, heldLane, heldRound};
+ghost use Rattle.keccak.specs.Inner.{flipped, effects, heldLane, heldRound};
 
-// The round constants of ι (3.2.5).
+// The round constants of ι (SPEC 4.6).
 const RC: [u64; 24] = [
     0x0000000000000001,
     0x0000000000008082,
@@ -56,7 +56,7 @@ fn flip(a: [[u64; 5]; 5]) -> [[u64; 5]; 5]
     ]
 }
 
-// What θ xors into each column, D of Algorithm 1.
+// What θ xors into each column (D of SPEC 4.2).
 fn effect(a: &[[u64; 5]; 5]) -> [u64; 5]
     ensures { λ r. ⌜ r ≡ effects (now (a .entry)) ⌝ }
 {
@@ -209,7 +209,7 @@ fn round(a: &[[u64; 5]; 5], rc: u64, out: &mut [[u64; 5]; 5])
     out[4] = row4(a, d0, d1, d2, d3, d4);
 }
 
-// The permutation. The constants go to a local once, since an array constant is stored anew wherever it is used.
+// SPEC 4.7: the permutation. The constants go to a local once, since an array constant is stored anew wherever it is used.
 pub fn permute(a: [[u64; 5]; 5]) -> [[u64; 5]; 5]
     ensures { λ r. ⌜ r ≡ keccak a ⌝ }
 {

@@ -3,7 +3,7 @@ use mathlib.Core.List.{List}
 use Prim.Native.Nat.{ℕ}
 use denote.Ref.{now}
 use Rattle.outcome.proofs.One.{One}
-use Rattle.sets.proofs.Outcomes.{determined-report}
+use Rattle.answers.proofs.Outcomes.{determined-report}
 use Rattle.scheme.specs.Keys.{Pair}
 use Rattle.keys.proofs.make_keys.Reads as make-keys
 use Rattle.keys.proofs.make_keys.Kinds as make-keys-kinds

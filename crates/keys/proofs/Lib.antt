@@ -1,7 +1,8 @@
-pub mod Sizes
-pub mod Drawn
+-- Key making, step by step.
+pub mod Drawing
 pub mod Rounding
-pub mod Readied
 pub mod Written
 pub mod Made
+pub mod Checks
+-- The contract permits one outcome.
 pub mod Determined

@@ -1,155 +1,117 @@
--- What was written is what the definition makes, and the call's checks in their order.
-use mathlib.Core.Path.{_≡_, sym, ap, subst, _∙_}
+-- What was written is what the definition makes.
+use mathlib.Core.Path.{_≡_, refl, sym, ap, _∙_}
 use mathlib.Core.List.{List}
 use Prim.Native.Nat.{ℕ}
-use native.Mathlib.Omega.{arith}
-use lib.Dec.{eqb}
 use lib.IntN.{ℤ}
-use lib.ListN.{length, take, drop}
 use Rattle.sets.specs.Set.{Set}
 use Rattle.sets.specs.Good.{Trinomial}
-use Rattle.sets.specs.declared.refusal.Buffer.the-variants.{PublicKey as PublicBuffer, SecretKey as SecretBuffer, Zeta, ZetaPrime}
-use Rattle.sets.specs.declared.refusal.Refusal.the-variants.{Length, Dry as DryStream}
-use Rattle.sets.specs.Result.{Result, done, refused, need, _>>_}
-use Rattle.sets.proofs.Outcomes.{equal, unequal}
-use Rattle.sets.proofs.Results.{bind-done}
+use Rattle.answers.specs.declared.Refusal.{Refusal}
+use Rattle.answers.specs.Result.{Result, done, refused, _>>=_}
+use Rattle.answers.proofs.Outcomes.{stops, gives}
+use Rattle.answers.proofs.Results.{bind-inv, done-inv}
 use Rattle.shake.specs.Shake.{shake256}
-use Rattle.ring.specs.Engine.{Residues}
-use Rattle.ring.specs.Profile.{trinomial}
+use Rattle.packing.specs.declared.parts.Part.the-variants as part
 use Rattle.packing.specs.Layouts.{t1Layout, t0Layout, sLayout}
-use Rattle.packing.specs.Parts.{packPublic, packSecret, part, total, publicParts, secretParts}
-use Rattle.sampling.specs.declared.Sampled.{Sampled}
-use Rattle.sampling.specs.declared.Sampled.the-variants.{All, Dry}
-use Rattle.sampling.specs.Streams.{expandS}
-use Rattle.sampling.proofs.Drawing.{expanded-s}
+use Rattle.packing.specs.Parts.{packPublic, packSecret, total, bytesOf, seedsSize}
+use Rattle.streams.specs.Streams.{expandA, expandS}
+use Rattle.streams.proofs.Drawn.{expanded-s}
+use Rattle.sampling.proofs.Drawing.{Each, Small}
 use Rattle.scheme.specs.Elements.{powerHighs, powerLows}
-use Rattle.scheme.specs.Keys.{Pair, keyT, publicKey, secretKey, seedParts, makePair, makeKeys}
-use Rattle.slots.specs.Slots.{slot}
-use Rattle.memory.specs.Holds.{Holds}
-use Rattle.memory.proofs.Holding.{residues-of}
-use Rattle.memory.proofs.Placing.{part-at}
-use Rattle.keys.specs.Steps.{Elements, Drew, Rounded, values, Ready}
-use Rattle.keys.proofs.Readied.{Back, back-s, back-t1, back-t0}
+use Rattle.scheme.specs.Keys.{Pair, publicKey, phOf, secretKey, pairFrom}
+use Rattle.workspace.specs.declared.Place.the-variants as place
+use Rattle.workspace.specs.Inner.{Room, Ready, values, Packable}
+use Rattle.workspace.proofs.Holding.{residues-of, ready-first, ready-next}
+use Rattle.workspace.proofs.Packing.{Back, back-s, back-t1, back-t0}
+use Rattle.keys.specs.Inner.{Drawn, drawnFrom, tOf, Held, Rounded}
 
--- K
-third-seed : (seeds : List ℕ) → take 32 (drop 64 seeds) ≡ part seedParts 2 seeds
+-- how long ξ1, ξ2 and K are together
+pub seeds-long : 96 ≡ seedsSize
 unfolding total
-third-seed seeds = sym (part-at seedParts 2 seeds (omega arith))
+seeds-long = refl
 
--- a dry stream
-pub none-made : (p : Set) (ζ seeds work : List ℕ) (r : Sampled) → r ≡ Dry → Drew p ζ seeds r work → (ζ′ : List ℕ) → seeds ≡ shake256 ζ′ 96
-    → makePair (trinomial p) shake256 ζ ζ′ ≡ refused DryStream
-none-made p ζ seeds work r e f = subst (λ (x : Sampled). Drew p ζ seeds x work) e f
+-- what was drawn is remainders
+pub drawn-ready : (p : Set) → Trinomial p → (d : Drawn) (work : List ℕ) → Room p work → Held p d work → Ready p place.S2 work
+drawn-ready p T d work room H =
+    ready-next {k = place.S1} refl
+    (ready-next {k = place.A} refl (ready-first refl room (residues-of p (T .good) (H .a))) (residues-of p (T .good) (H .s1)))
+    (residues-of p (T .good) (H .s2))
 
-module _ (p : Set) (T : Trinomial p) (ζ seeds work : List ℕ) (r : Sampled) (all : r ≡ All) (drew : Drew p ζ seeds r work) where
-  D : Elements p ζ seeds work
-  D = subst (λ (x : Sampled). Drew p ζ seeds x work) all drew
+-- the definition is what it draws, and then the keys of that
+module _ (p : Set) (ζ seeds : List ℕ) where
+  abbrev pub pairOf : Drawn → Pair
+  pairOf d = record {
+    public = publicKey p ζ (tOf p d);
+    secret = secretKey p shake256 ζ (bytesOf p part.NewK seeds) (d .s1) (d .s2) (tOf p d);
+  }
 
-  pub drawn-residues : Residues p (slot (p .n) 0 work) × Residues p (slot (p .n) 1 work) × Residues p (slot (p .n) 2 work)
-  drawn-residues = (residues-of p T (D .a-held), residues-of p T (D .s1-held), residues-of p T (D .s2-held))
+  pair-is : pairFrom p shake256 ζ seeds ≡ (drawnFrom p ζ seeds >>= λ d. done (pairOf d))
+  unfolding pairFrom drawnFrom
+  pair-is = by (expandA p shake256 ζ) (expandS p shake256 (bytesOf p part.Xi1 seeds)) (expandS p shake256 (bytesOf p part.Xi2 seeds))
+    where
+      by : (m m₁ m₂ : Result (List ℤ)) → _≡_ {A = Result Pair} (m >>= λ a. m₁ >>= λ s1. m₂ >>= λ s2. done (pairOf record { a = a; s1 = s1; s2 = s2 }))
+          ((m >>= λ a. m₁ >>= λ s1. m₂ >>= λ s2. done (record { a = a; s1 = s1; s2 = s2 })) >>= λ d. done (pairOf d))
+      by (refused r) m₁ m₂ = refl
+      by (done a) (refused r) m₂ = refl
+      by (done a) (done s1) (refused r) = refl
+      by (done a) (done s1) (done s2) = refl
 
-  module _ (more : List ℕ) (round : (a s1 s2 : List ℤ) → Holds p 0 a work → Holds p 1 s1 work → Holds p 2 s2 work → Rounded p a s1 s2 more) where
-    R : Rounded p (D .a) (D .s1) (D .s2) more
-    R = round (D .a) (D .s1) (D .s2) (D .a-held) (D .s1-held) (D .s2-held)
+  pub pair-refused : (why : Refusal) → drawnFrom p ζ seeds ≡ refused why → pairFrom p shake256 ζ seeds ≡ refused why
+  pair-refused why e = pair-is ∙ stops (drawnFrom p ζ seeds) why _ e
 
-    abbrev t : List ℤ
-    t = keyT (trinomial p) (D .a) (D .s1) (D .s2)
+  -- what was drawn is small
+  module _ (d : Drawn) (drew : drawnFrom p ζ seeds ≡ done d) where
+    small-both : Each (Small (p .eta)) (p .n) (d .s1) × Each (Small (p .eta)) (p .n) (d .s2)
+    unfolding drawnFrom
+    small-both =
+        let x = bind-inv (expandA p shake256 ζ) _ d drew in
+        let y = bind-inv (expandS p shake256 (bytesOf p part.Xi1 seeds)) _ d (x .2) in
+        let z = bind-inv (expandS p shake256 (bytesOf p part.Xi2 seeds)) _ d (y .2) in
+        let i : record { a = x .0; s1 = y .0; s2 = z .0 } ≡ d = done-inv _ _ (z .2) in
+        rw (← i) (expanded-s p shake256 _ (y .0) (y .1), expanded-s p shake256 _ (z .0) (z .1))
 
-    t1-back : Back p (t1Layout p) 4 (powerHighs (trinomial p) t) more
-    t1-back = back-t1 p T t (R .t1-held)
+    module _ (T : Trinomial p) (work : List ℕ) (R : Rounded p d work) where
+      t1-back : Back p (t1Layout p) place.T1 (powerHighs p (tOf p d)) work
+      t1-back = back-t1 p T (tOf p d) (R .t1)
 
-    t0-back : Back p (t0Layout p) 5 (powerLows (trinomial p) t) more
-    t0-back = back-t0 p T t (R .t0-held)
+      t0-back : Back p (t0Layout p) place.T0 (powerLows p (tOf p d)) work
+      t0-back = back-t0 p T (tOf p d) (R .t0)
 
-    s1-back : Back p (sLayout p) 1 (D .s1) more
-    s1-back = back-s p T (expanded-s p shake256 (part seedParts 0 seeds) (D .s1) (D .s1-is)) (R .s1-held)
+      s1-back : Back p (sLayout p) place.S1 (d .s1) work
+      s1-back = back-s p T (small-both .0) (R .s1)
 
-    s2-back : Back p (sLayout p) 2 (D .s2) more
-    s2-back = back-s p T (expanded-s p shake256 (part seedParts 1 seeds) (D .s2) (D .s2-is)) (R .s2-held)
+      s2-back : Back p (sLayout p) place.S2 (d .s2) work
+      s2-back = back-s p T (small-both .1) (R .s2)
 
-    pub all-ready : Ready p (t1Layout p) 4 more × Ready p (sLayout p) 1 more × Ready p (sLayout p) 2 more × Ready p (t0Layout p) 5 more
-    all-ready = (t1-back .ready, s1-back .ready, s2-back .ready, t0-back .ready)
+      pub all-packable : Packable p (t1Layout p) place.T1 work × Packable p (sLayout p) place.S1 work × Packable p (sLayout p) place.S2 work × Packable p (t0Layout p) place.T0 work
+      all-packable = (t1-back .packable, s1-back .packable, s2-back .packable, t0-back .packable)
 
-    module _ (pk sk : List ℕ) (e : pk ≡ packPublic p record { zeta = ζ; t1 = values p 4 more })
-        (f :
-        sk ≡
-        packSecret p record {
-          zeta = ζ;
-          ph = shake256 pk 32;
-          k = take 32 (drop 64 seeds);
-          s1 = values p 1 more;
-          s2 = values p 2 more;
-          t0 = values p 5 more;
-        }) where
-      public-is : pk ≡ publicKey (trinomial p) ζ t
-      public-is = e ∙ ap (λ (x : List ℤ). packPublic p record { zeta = ζ; t1 = x }) (t1-back .same)
-
-      secret-is : sk ≡ secretKey (trinomial p) shake256 ζ (part seedParts 2 seeds) (D .s1) (D .s2) t
-      secret-is =
-          f ∙
-          (λ i. packSecret p record {
+      module _ (pk sk k : List ℕ) (third : k ≡ bytesOf p part.NewK seeds) (e : pk ≡ packPublic p record { zeta = ζ; t1 = values p place.T1 work })
+          (f :
+          sk ≡
+          packSecret p record {
             zeta = ζ;
-            ph = shake256 (public-is i) 32;
-            k = third-seed seeds i;
-            s1 = s1-back .same i;
-            s2 = s2-back .same i;
-            t0 = t0-back .same i;
-          })
+            ph = phOf shake256 pk;
+            k = k;
+            s1 = values p place.S1 work;
+            s2 = values p place.S2 work;
+            t0 = values p place.T0 work;
+          }) where
+        public-is : pk ≡ publicKey p ζ (tOf p d)
+        public-is = e ∙ ap (λ (x : List ℤ). packPublic p record { zeta = ζ; t1 = x }) (t1-back .same)
 
-      pair-is : (ζ′ : List ℕ) → seeds ≡ shake256 ζ′ 96 → _≡_ {A = Pair} record { public = pk; secret = sk } record {
-        public = publicKey (trinomial p) ζ t;
-        secret = secretKey (trinomial p) shake256 ζ (part seedParts 2 (shake256 ζ′ 96)) (D .s1) (D .s2) t;
-      }
-      pair-is ζ′ s =
-          (λ i. record { public = public-is i; secret = secret-is i }) ∙
-          (λ i. record { public = publicKey (trinomial p) ζ t; secret = secretKey (trinomial p) shake256 ζ (part seedParts 2 (s i)) (D .s1) (D .s2) t })
+        secret-is : sk ≡ secretKey p shake256 ζ (bytesOf p part.NewK seeds) (d .s1) (d .s2) (tOf p d)
+        secret-is =
+            f ∙
+            (λ i. packSecret p record {
+              zeta = ζ;
+              ph = phOf shake256 (public-is i);
+              k = third i;
+              s1 = s1-back .same i;
+              s2 = s2-back .same i;
+              t0 = t0-back .same i;
+            })
 
-      pub all-made : (ζ′ : List ℕ) → seeds ≡ shake256 ζ′ 96 → makePair (trinomial p) shake256 ζ ζ′ ≡ done record { public = pk; secret = sk }
-      unfolding makePair
-      all-made ζ′ s =
-          bind-done _ (D .a-is)
-          (bind-done _ (ap (λ (x : List ℕ). expandS p shake256 (part seedParts 0 x)) (sym s) ∙ D .s1-is)
-          (bind-done _ (ap (λ (x : List ℕ). expandS p shake256 (part seedParts 1 x)) (sym s) ∙ D .s2-is) (ap done (sym (pair-is ζ′ s)))))
-
--- ---- the lengths
-module _ (p : Set) (ζ ζ′ pk sk : List ℕ) where
-  abbrev keys : Result Pair
-  keys = makeKeys (trinomial p) shake256 ζ ζ′ pk sk
-
-  abbrev after-public : Result Pair
-  after-public = need (eqb (length sk) (total (secretParts p))) (Length SecretBuffer) >> makePair (trinomial p) shake256 ζ ζ′
-
-  abbrev after-prime : Result Pair
-  after-prime = need (eqb (length pk) (total (publicParts p))) (Length PublicBuffer) >> after-public
-
-  abbrev after-zeta : Result Pair
-  after-zeta = need (eqb (length ζ′) 32) (Length ZetaPrime) >> after-prime
-
-  pub wrong-zeta : (length ζ ≡ 32 → ⊥) → makeKeys (trinomial p) shake256 ζ ζ′ pk sk ≡ refused (Length Zeta)
-  unfolding makeKeys
-  wrong-zeta e = unequal (length ζ) 32 (Length Zeta) after-zeta e
-
-  module _ (a : length ζ ≡ 32) where
-    go-zeta : keys ≡ after-zeta
-    unfolding makeKeys
-    go-zeta = equal (length ζ) 32 (Length Zeta) after-zeta a
-
-    pub wrong-prime : (length ζ′ ≡ 32 → ⊥) → makeKeys (trinomial p) shake256 ζ ζ′ pk sk ≡ refused (Length ZetaPrime)
-    wrong-prime e = go-zeta ∙ unequal (length ζ′) 32 (Length ZetaPrime) after-prime e
-
-    module _ (b : length ζ′ ≡ 32) where
-      go-prime : keys ≡ after-prime
-      go-prime = go-zeta ∙ equal (length ζ′) 32 (Length ZetaPrime) after-prime b
-
-      pub wrong-public : (length pk ≡ total (publicParts p) → ⊥) → makeKeys (trinomial p) shake256 ζ ζ′ pk sk ≡ refused (Length PublicBuffer)
-      wrong-public e = go-prime ∙ unequal (length pk) (total (publicParts p)) (Length PublicBuffer) after-public e
-
-      module _ (c : length pk ≡ total (publicParts p)) where
-        go-public : keys ≡ after-public
-        go-public = go-prime ∙ equal (length pk) (total (publicParts p)) (Length PublicBuffer) after-public c
-
-        pub wrong-secret : (length sk ≡ total (secretParts p) → ⊥) → makeKeys (trinomial p) shake256 ζ ζ′ pk sk ≡ refused (Length SecretBuffer)
-        wrong-secret e = go-public ∙ unequal (length sk) (total (secretParts p)) (Length SecretBuffer) (makePair (trinomial p) shake256 ζ ζ′) e
-
-        pub all-right : length sk ≡ total (secretParts p) → makeKeys (trinomial p) shake256 ζ ζ′ pk sk ≡ makePair (trinomial p) shake256 ζ ζ′
-        all-right d = go-public ∙ equal (length sk) (total (secretParts p)) (Length SecretBuffer) (makePair (trinomial p) shake256 ζ ζ′) d
+        pub pair-made : pairFrom p shake256 ζ seeds ≡ done record { public = pk; secret = sk }
+        pair-made =
+            pair-is ∙ gives (drawnFrom p ζ seeds) d (λ x. done (pairOf x)) drew ∙
+            ap done (sym (λ i. record { public = public-is i; secret = secret-is i }))

@@ -1,2 +1,2 @@
--- What each step of key making does.
-pub mod Steps
+-- Key making, step by step.
+pub mod Inner

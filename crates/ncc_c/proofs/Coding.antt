@@ -5,24 +5,24 @@ use Prim.Native.Nat.{ℕ, _<_}
 use native.Mathlib.Omega.{arith}
 use lib.IntN.{ℤ}
 use Rattle.outcome.specs.Outcome.{Is}
-use Rattle.sets.specs.declared.refusal.Buffer.{Buffer}
-use Rattle.sets.specs.declared.refusal.Buffer.the-variants.{PublicKey, SecretKey, Zeta, ZetaPrime, Signature, First, Second, Coefficients, Packed}
-use Rattle.sets.specs.declared.refusal.Field.{Field}
-use Rattle.sets.specs.declared.refusal.Field.the-variants.{T1, T0, S1, S2, S, Z, W1}
-use Rattle.sets.specs.declared.refusal.Refusal.{Refusal}
-use Rattle.sets.specs.declared.refusal.Refusal.the-variants.{Length, LongMessage, TryLimit, Coefficient, Hint, Dry, Spent, Differs}
-use Rattle.sets.specs.declared.refusal.Answer.{Answer}
-use Rattle.sets.specs.declared.refusal.Answer.the-variants.{Done, Refused}
-use Rattle.sets.specs.declared.refusal.Signing.{Signing}
-use Rattle.sets.specs.declared.refusal.Signing.the-variants.{Signed as SignedAfter, Refused as RefusedAfter}
-use Rattle.sets.specs.declared.refusal.Report.{Report}
-use Rattle.sets.specs.Refusals.{bufferPlace, fieldPlace, fieldNumber, refusalNumber, refusalPlace, reportOf, signingReport}
-use Rattle.sets.specs.Result.{Result, done, refused, told, outcome}
-use Rattle.sets.proofs.Reports.{report-one}
-use Rattle.packing.specs.declared.layout.Layout.{Layout}
+use Rattle.sets.specs.Set.{set1}
+use Rattle.answers.specs.declared.Buffer.{Buffer}
+use Rattle.answers.specs.declared.Buffer.the-variants.{PublicKey, SecretKey, Zeta, ZetaPrime, Signature, First, Second, Coefficients, Packed}
+use Rattle.answers.specs.declared.Field.{Field}
+use Rattle.answers.specs.declared.Field.the-variants.{T1, T0, S1, S2, S, Z, W1}
+use Rattle.answers.specs.declared.Refusal.{Refusal}
+use Rattle.answers.specs.declared.Refusal.the-variants.{Length, LongMessage, TryLimit, Coefficient, Hint, Dry, Spent, Differs}
+use Rattle.answers.specs.declared.Answer.{Answer}
+use Rattle.answers.specs.declared.Answer.the-variants.{Done, Refused}
+use Rattle.answers.specs.declared.Signing.{Signing}
+use Rattle.answers.specs.declared.Signing.the-variants.{Signed as SignedAfter, Refused as RefusedAfter}
+use Rattle.answers.specs.declared.Report.{Report}
+use Rattle.answers.specs.Refusals.{bufferPlace, fieldPlace, fieldNumber, refusalNumber, refusalPlace, reportOf, signingReport}
+use Rattle.answers.specs.Result.{Result, done, refused, told, outcome}
+use Rattle.answers.proofs.Reports.{report-one}
 use Rattle.packing.specs.Calls.{packCall, unpackCall}
-use Rattle.rounding.specs.declared.level1.Used.{Used}
-use Rattle.rounding.specs.declared.level1.Used.the-variants.{High, Refused as NoHint}
+use Rattle.rounding.specs.declared.set1.Used.{Used}
+use Rattle.rounding.specs.declared.set1.Used.the-variants.{High, Refused as NoHint}
 use Rattle.rounding.specs.Used.{usedReport, reported}
 use Rattle.scheme.specs.Sign.{Signed, signTold}
 use Rattle.ncc_c.specs.Answer.{encoded, coded, Fits}
@@ -89,12 +89,12 @@ signing-fits s e i =
     subst Fits (sym e) (record { number = signing-low s .0; place = signing-low s .1; index = i })
 
 -- packing and unpacking
-module _ (L : Layout) (f : Field) where
-  pub pack-index : (values : List ℤ) (out : List ℕ) (a : Answer) → reportOf a ≡ told (packCall L (Coefficient f) 1152 values out) → reportOf a .index < 65536
-  pack-index values out a = answer-index a (of-pack-call L (Coefficient f) (λ k. omega arith) 1152 (omega arith) values out)
+module _ (f : Field) where
+  pub pack-index : (values : List ℤ) (out : List ℕ) (a : Answer) → reportOf a ≡ told (packCall set1 f values out) → reportOf a .index < 65536
+  pack-index values out a = answer-index a (of-pack-call set1 (omega arith) f values out)
 
-  pub unpack-index : (packed : List ℕ) (out : List ℤ) (a : Answer) → reportOf a ≡ told (unpackCall L (Coefficient f) 1152 packed out) → reportOf a .index < 65536
-  unpack-index packed out a = answer-index a (of-unpack-call L (Coefficient f) (λ k. omega arith) 1152 (omega arith) packed out)
+  pub unpack-index : (packed : List ℕ) (out : List ℤ) (a : Answer) → reportOf a ≡ told (unpackCall set1 f packed out) → reportOf a .index < 65536
+  unpack-index packed out a = answer-index a (of-unpack-call set1 (omega arith) f packed out)
 
 -- a hint's high bits are stored, or the number keeps what it held
 pub used-high : (m : Result ℕ) (old v : ℕ) (u : Used) → u ≡ High v → usedReport u ≡ reported m → Is (outcome m old) (reportOf Done) v

@@ -9,29 +9,30 @@ use lib.Dec.{eqb, leb}
 use lib.IntN.{ℤ}
 use lib.ListN.{length}
 use Rattle.sets.specs.Set.{Set, seedSize, messageMax, tryMax}
-use Rattle.sets.specs.declared.refusal.Buffer.the-variants.{PublicKey, SecretKey, Zeta, ZetaPrime, Signature, First, Second, Coefficients, Packed}
-use Rattle.sets.specs.declared.refusal.Field.{Field}
-use Rattle.sets.specs.declared.refusal.Field.the-variants.{T1, T0, S1, S2, Z}
-use Rattle.sets.specs.declared.refusal.Refusal.{Refusal}
-use Rattle.sets.specs.declared.refusal.Refusal.the-variants.{Length, LongMessage, TryLimit, Coefficient, Hint, Differs}
-use Rattle.sets.specs.Refusals.{refusalIndex}
-use Rattle.sets.specs.Result.{Result, done, refused, _>>=_, _>>_, need, told}
+use Rattle.answers.specs.declared.Buffer.the-variants.{PublicKey, SecretKey, Zeta, ZetaPrime, Signature, First, Second, Coefficients, Packed}
+use Rattle.answers.specs.declared.Field.{Field}
+use Rattle.answers.specs.declared.Field.the-variants.{T1, T0, S1, S2, Z}
+use Rattle.answers.specs.declared.Refusal.{Refusal}
+use Rattle.answers.specs.declared.Refusal.the-variants.{Length, LongMessage, TryLimit, Coefficient, Hint, Differs}
+use Rattle.answers.specs.Refusals.{refusalIndex}
+use Rattle.answers.specs.Result.{Result, done, refused, _>>=_, _>>_, need, told}
 use Rattle.digits.specs.Digits.{codes, twoBytes}
 use Rattle.packing.specs.declared.layout.Layout.{Layout}
-use Rattle.packing.specs.Layouts.{t1Layout, t0Layout, sLayout, zLayout, hintLayout, every, holds, allowed, size, unpack}
-use Rattle.packing.specs.Parts.{part, total, publicParts, secretParts, signatureParts, ones, anyHint, readPublic, readSecret, readHints, readSignature}
+use Rattle.packing.specs.declared.parts.Part.{Part}
+use Rattle.packing.specs.declared.parts.Part.the-variants as part
+use Rattle.packing.specs.Layouts.{layoutOf, hintLayout, every, holds, allowed, size, unpack}
+use Rattle.packing.specs.Parts.{publicSize, secretSize, signatureSize, bytesOf, fieldIn, ones, anyHint, readPublic, readSecret, readHints, readSignature}
 use Rattle.packing.specs.Calls.{packCall, unpackCall}
 use Rattle.packing.proofs.Elements.{length-codes}
 use Rattle.sampling.specs.Samplers.{Drawn, dry, drew, drawn, sampleA, sampleS}
-use Rattle.sampling.specs.Streams.{Hash, expandA, expandS, expandC}
+use Rattle.streams.specs.Streams.{Hash, expandA, expandS, expandC}
 use Rattle.sampling.specs.Calls.{sampleCall}
-use Rattle.ring.specs.Profile.{Profile}
 use Rattle.ring.specs.Calls.{productCall}
 use Rattle.rounding.specs.Used.{usedHint}
 use Rattle.scheme.specs.Elements.{useHints}
-use Rattle.scheme.specs.Keys.{seedParts, makePair, makeKeys}
+use Rattle.scheme.specs.Keys.{seedsOf, pairFrom, makePair, makeKeys}
 use Rattle.scheme.specs.Try.{Try, passes, fails, try, commit}
-use Rattle.scheme.specs.Sign.{Signed, orNext, firstPass, rhoOf, readSigner, signWith, sign}
+use Rattle.scheme.specs.Sign.{Signed, orNext, firstPass, rhoOf, readKey, readSigner, signWith, sign}
 use Rattle.scheme.specs.Check.{same, recomputed, muFor, check}
 
 pub record Small {A : Type 0} (m : Result A) : Type 0 where
@@ -79,19 +80,6 @@ module _ (L : Layout) (refusal : ℕ → Refusal) (names : (k : ℕ) → refusal
       let cs = codes (L .bits) n bs in
       of-then (every (allowed L) refusal 0 cs) (of-every (allowed L) refusal names 0 cs (omega (arith, length-codes (L .bits) n bs))) of-done
 
-  pub of-pack-call : (values : List ℤ) (out : List ℕ) → Small (packCall L refusal n values out)
-  unfolding packCall
-  of-pack-call values out =
-      of-need (eqb (length values) n) (Length Coefficients) (omega arith)
-      (λ e. of-check (eqb (length out) (size L n)) (Length Packed) refl
-      (of-then (every (holds L) refusal 0 values) (of-every (holds L) refusal names 0 values (omega (arith, eqb-true (length values) n e))) of-done))
-
-  pub of-unpack-call : (packed : List ℕ) (out : List ℤ) → Small (unpackCall L refusal n packed out)
-  unfolding unpackCall
-  of-unpack-call packed out =
-      of-check (eqb (length packed) (size L n)) (Length Packed) refl
-      (of-check (eqb (length out) n) (Length Coefficients) refl (of-unpack packed))
-
 -- ---- samplers
 
 of-drawn : (d : Drawn) → Small (drawn d)
@@ -105,12 +93,12 @@ of-sample-call p sample stream out =
 
 -- ---- the ring and the hints
 
-pub of-product-call : (P : Profile) (a b out : List ℤ) → Small (productCall P a b out)
+pub of-product-call : (p : Set) (a b out : List ℤ) → Small (productCall p a b out)
 unfolding productCall
-of-product-call P a b out =
-    of-check (eqb (length a) (P .num .n)) (Length First) refl
-    (of-check (eqb (length b) (P .num .n)) (Length Second) refl
-    (of-check (eqb (length out) (P .num .n)) (Length Coefficients) refl of-done))
+of-product-call p a b out =
+    of-check (eqb (length a) (p .n)) (Length First) refl
+    (of-check (eqb (length b) (p .n)) (Length Second) refl
+    (of-check (eqb (length out) (p .n)) (Length Coefficients) refl of-done))
 
 pub of-used-hint : (p : Set) (h : ℕ) (r : ℤ) → Small (usedHint p h r)
 unfolding usedHint
@@ -119,21 +107,17 @@ of-used-hint p h r = of-check (leb h 1) Hint refl of-done
 -- ---- keys and signatures that are read
 
 module _ (p : Set) (few : p .n ≤ 65536) where
-  -- an element of a key or of a signature, and what follows it
-  of-part : {B : Type 0} (L : Layout) (f : Field) (bs : List ℕ) {k : List ℤ → Result B} → ((zs : List ℤ) → Small (k zs))
-      → Small (unpack L (Coefficient f) (p .n) bs >>= k)
-  of-part L f bs = of-bind (unpack L (Coefficient f) (p .n) bs) (of-unpack L (Coefficient f) (λ k. omega arith) (p .n) few bs)
+  -- a field of a key or of a signature, and what follows it
+  of-field : {B : Type 0} (f : Field) (x : Part) (bs : List ℕ) {k : List ℤ → Result B} → ((zs : List ℤ) → Small (k zs)) → Small (fieldIn p f x bs >>= k)
+  of-field f x bs = of-bind (fieldIn p f x bs) (of-unpack (layoutOf p f) (Coefficient f) (λ k. omega arith) (p .n) few (bytesOf p x bs))
 
   of-public : (bs : List ℕ) → Small (readPublic p bs)
   unfolding readPublic
-  of-public bs = of-part (t1Layout p) T1 (part (publicParts p) 1 bs) (λ t1. of-done)
+  of-public bs = of-field T1 part.T1 bs (λ t1. of-done)
 
   of-secret : (bs : List ℕ) → Small (readSecret p bs)
   unfolding readSecret
-  of-secret bs =
-      of-part (sLayout p) S1 (part (secretParts p) 3 bs)
-      (λ s1. of-part (sLayout p) S2 (part (secretParts p) 4 bs)
-      (λ s2. of-part (t0Layout p) T0 (part (secretParts p) 5 bs) (λ t0. of-done)))
+  of-secret bs = of-field S1 part.S1 bs (λ s1. of-field S2 part.S2 bs (λ s2. of-field T0 part.T0 bs (λ t0. of-done)))
 
   of-hints : (bs : List ℕ) → Small (readHints p bs)
   unfolding readHints
@@ -144,8 +128,25 @@ module _ (p : Set) (few : p .n ≤ 65536) where
   of-signature : (bs : List ℕ) → Small (readSignature p bs)
   unfolding readSignature
   of-signature bs =
-      let hs = part (signatureParts p) 2 bs in
-      of-part (zLayout p) Z (part (signatureParts p) 1 bs) (λ z. of-bind (readHints p hs) (of-hints hs) (λ h. of-done))
+      let hs = bytesOf p part.Hints bs in
+      of-field Z part.Z bs (λ z. of-bind (readHints p hs) (of-hints hs) (λ h. of-done))
+
+  -- what packing and unpacking answer
+  pub of-pack-call : (f : Field) (values : List ℤ) (out : List ℕ) → Small (packCall p f values out)
+  unfolding packCall
+  of-pack-call f values out =
+      let L = layoutOf p f in
+      of-need (eqb (length values) (p .n)) (Length Coefficients) (omega arith)
+      (λ e. of-check (eqb (length out) (size L (p .n))) (Length Packed) refl
+      (of-then (every (holds L) (Coefficient f) 0 values)
+      (of-every (holds L) (Coefficient f) (λ k. omega arith) 0 values (omega (arith, few, eqb-true (length values) (p .n) e))) of-done))
+
+  pub of-unpack-call : (f : Field) (packed : List ℕ) (out : List ℤ) → Small (unpackCall p f packed out)
+  unfolding unpackCall
+  of-unpack-call f packed out =
+      of-check (eqb (length packed) (size (layoutOf p f) (p .n))) (Length Packed) refl
+      (of-check (eqb (length out) (p .n)) (Length Coefficients) refl
+      (of-unpack (layoutOf p f) (Coefficient f) (λ k. omega arith) (p .n) few packed))
 
 -- ---- the scheme
 
@@ -158,59 +159,65 @@ of-first-pass t κ (suc m) = of-next (t κ) (firstPass t (suc κ) m) (of-first-p
     of-next (passes σ) next s = of-done
     of-next (fails r) next s = s
 
-module _ (P : Profile) (few : P .num .n ≤ 65536) (H : Hash) where
-  drawn-a : (ζ : List ℕ) → Small (expandA (P .num) H ζ)
+module _ (p : Set) (few : p .n ≤ 65536) (H : Hash) where
+  drawn-a : (ζ : List ℕ) → Small (expandA p H ζ)
   unfolding expandA
-  drawn-a ζ = of-drawn (sampleA (P .num) (H (ζ ++ twoBytes 0) (P .num .astream)))
+  drawn-a ζ = of-drawn (sampleA p (H (ζ ++ twoBytes 0) (p .astream)))
 
-  drawn-s : (ξ : List ℕ) → Small (expandS (P .num) H ξ)
+  drawn-s : (ξ : List ℕ) → Small (expandS p H ξ)
   unfolding expandS
-  drawn-s ξ = of-drawn (sampleS (P .num) (H ξ (P .num .sstream)))
+  drawn-s ξ = of-drawn (sampleS p (H ξ (p .sstream)))
 
   -- an element that is drawn, and what follows it
-  of-a : {B : Type 0} (ζ : List ℕ) {k : List ℤ → Result B} → ((zs : List ℤ) → Small (k zs)) → Small (expandA (P .num) H ζ >>= k)
-  of-a ζ = of-bind (expandA (P .num) H ζ) (drawn-a ζ)
+  of-a : {B : Type 0} (ζ : List ℕ) {k : List ℤ → Result B} → ((zs : List ℤ) → Small (k zs)) → Small (expandA p H ζ >>= k)
+  of-a ζ = of-bind (expandA p H ζ) (drawn-a ζ)
 
-  of-s : {B : Type 0} (ξ : List ℕ) {k : List ℤ → Result B} → ((zs : List ℤ) → Small (k zs)) → Small (expandS (P .num) H ξ >>= k)
-  of-s ξ = of-bind (expandS (P .num) H ξ) (drawn-s ξ)
+  of-s : {B : Type 0} (ξ : List ℕ) {k : List ℤ → Result B} → ((zs : List ℤ) → Small (k zs)) → Small (expandS p H ξ >>= k)
+  of-s ξ = of-bind (expandS p H ξ) (drawn-s ξ)
 
-  of-signer : (sk M ρ : List ℕ) → Small (readSigner P H sk M ρ)
+  of-key : (sk : List ℕ) → Small (readKey p H sk)
+  unfolding readKey
+  of-key sk = of-bind (readSecret p sk) (of-secret p few sk) (λ k. of-a (k .zeta) (λ a. of-done))
+
+  of-signer : (sk M ρ : List ℕ) → Small (readSigner p H sk M ρ)
   unfolding readSigner
-  of-signer sk M ρ = of-bind (readSecret (P .num) sk) (of-secret (P .num) few sk) (λ k. of-a (k .zeta) (λ a. of-done))
+  of-signer sk M ρ = of-bind (readKey p H sk) (of-key sk) (λ k. of-done)
 
-  of-sign-with : (sk M : List ℕ) (limit : ℕ) (out ρ : List ℕ) → Small (signWith P H sk M limit out ρ)
+  of-sign-with : (sk M : List ℕ) (limit : ℕ) (out ρ : List ℕ) → Small (signWith p H sk M limit out ρ)
   unfolding signWith
   of-sign-with sk M limit out ρ =
-      of-check (eqb (length sk) (total (secretParts (P .num)))) (Length SecretKey) refl
-      (of-check (eqb (length out) (total (signatureParts (P .num)))) (Length Signature) refl
+      of-check (eqb (length sk) (secretSize p)) (Length SecretKey) refl
+      (of-check (eqb (length out) (signatureSize p)) (Length Signature) refl
       (of-check (leb (length M) messageMax) LongMessage refl
       (of-check (leb 1 limit && leb limit tryMax) TryLimit refl
-      (of-bind (readSigner P H sk M ρ) (of-signer sk M ρ) (λ S. of-first-pass (try P H S) 0 limit)))))
+      (of-bind (readSigner p H sk M ρ) (of-signer sk M ρ) (λ S. of-first-pass (try p H S) 0 limit)))))
 
-  pub of-sign : (sk M : List ℕ) (limit : ℕ) (out : List ℕ) → Small (sign P H sk M limit out)
+  pub of-sign : (sk M : List ℕ) (limit : ℕ) (out : List ℕ) → Small (sign p H sk M limit out)
   unfolding sign
-  of-sign sk M limit out = of-sign-with sk M limit out (rhoOf P H sk M)
+  of-sign sk M limit out = of-sign-with sk M limit out (rhoOf p H sk M)
 
-  of-pair : (ζ ζ′ : List ℕ) → Small (makePair P H ζ ζ′)
-  unfolding makePair
-  of-pair ζ ζ′ = of-a ζ (λ a. of-s (part seedParts 0 (H ζ′ 96)) (λ s1. of-s (part seedParts 1 (H ζ′ 96)) (λ s2. of-done)))
+  of-pair : (ζ ζ′ : List ℕ) → Small (makePair p H ζ ζ′)
+  unfolding makePair pairFrom
+  of-pair ζ ζ′ =
+      let seeds = seedsOf H ζ′ in
+      of-a ζ (λ a. of-s (bytesOf p part.Xi1 seeds) (λ s1. of-s (bytesOf p part.Xi2 seeds) (λ s2. of-done)))
 
-  pub of-make-keys : (ζ ζ′ publicOut secretOut : List ℕ) → Small (makeKeys P H ζ ζ′ publicOut secretOut)
+  pub of-make-keys : (ζ ζ′ publicOut secretOut : List ℕ) → Small (makeKeys p H ζ ζ′ publicOut secretOut)
   unfolding makeKeys
   of-make-keys ζ ζ′ publicOut secretOut =
       of-check (eqb (length ζ) seedSize) (Length Zeta) refl
       (of-check (eqb (length ζ′) seedSize) (Length ZetaPrime) refl
-      (of-check (eqb (length publicOut) (total (publicParts (P .num)))) (Length PublicKey) refl
-      (of-check (eqb (length secretOut) (total (secretParts (P .num)))) (Length SecretKey) refl (of-pair ζ ζ′))))
+      (of-check (eqb (length publicOut) (publicSize p)) (Length PublicKey) refl
+      (of-check (eqb (length secretOut) (secretSize p)) (Length SecretKey) refl (of-pair ζ ζ′))))
 
-  pub of-checking : (pk σ M : List ℕ) → Small (check P H pk σ M)
+  pub of-checking : (pk σ M : List ℕ) → Small (check p H pk σ M)
   unfolding check
   of-checking pk σ M =
-      of-check (eqb (length pk) (total (publicParts (P .num)))) (Length PublicKey) refl
-      (of-check (eqb (length σ) (total (signatureParts (P .num)))) (Length Signature) refl
+      of-check (eqb (length pk) (publicSize p)) (Length PublicKey) refl
+      (of-check (eqb (length σ) (signatureSize p)) (Length Signature) refl
       (of-check (leb (length M) messageMax) LongMessage refl
-      (of-bind (readPublic (P .num) pk) (of-public (P .num) few pk)
-      (λ k. of-bind (readSignature (P .num) σ) (of-signature (P .num) few σ)
+      (of-bind (readPublic p pk) (of-public p few pk)
+      (λ k. of-bind (readSignature p σ) (of-signature p few σ)
       (λ s. of-a (k .zeta)
-      (λ a. of-bind (drawn (expandC (P .num) H (s .c~))) (of-drawn (expandC (P .num) H (s .c~)))
-      (λ c. of-last (same (s .c~) (commit P H (muFor H pk M) (useHints P (s .h) (recomputed P a (s .z) c (k .t1))))) Differs refl)))))))
+      (λ a. of-bind (drawn (expandC p H (s .c~))) (of-drawn (expandC p H (s .c~)))
+      (λ c. of-last (same (s .c~) (commit p H (muFor H pk M) (useHints p (s .h) (recomputed p a (s .z) c (k .t1))))) Differs refl)))))))

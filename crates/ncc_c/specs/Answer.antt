@@ -1,6 +1,6 @@
--- "answer = number + 2^8 · place + 2^16 · index + 2^32 · tries"
+-- An answer as one number (SPEC 10.7).
 use Prim.Native.Nat.{ℕ, _+_, _*_, _^_, _<_}
-use Rattle.sets.specs.declared.refusal.Report.{Report}
+use Rattle.answers.specs.declared.Report.{Report}
 
 unfoldable pub encoded : Report → ℕ
 encoded r = r .number + 2 ^ 8 * r .place + 2 ^ 16 * r .index + 2 ^ 32 * r .tries

@@ -1,10 +1,10 @@
 // An answer as one number: number + 2^8 · place + 2^16 · index + 2^32 · tries.
-use sets::refusal::Answer;
-use sets::refusal::Report;
-use sets::refusal::Signing;
+use answers::Answer;
+use answers::Report;
+use answers::Signing;
 ghost use mathlib.Core.Path.{_≡_};
 ghost use Prim.Native.Nat.{_<_};
-ghost use Rattle.sets.specs.Refusals.{reportOf, signingReport};
+ghost use Rattle.answers.specs.Refusals.{reportOf, signingReport};
 ghost use Rattle.ncc_c.specs.Answer.{encoded, Fits};
 
 // Each part is below its place's end, so that no part reaches into another.

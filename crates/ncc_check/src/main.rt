@@ -1,17 +1,17 @@
-// Checks a signature: standard input is the public key (1,760 bytes), the signature (2,912) and the message. Prints the refusal number
-// and a newline.
+// Checks a signature (SPEC 11.1): standard input is the public key, the signature and the message. Prints the refusal number and a
+// newline.
 use libc::STDIN_FILENO;
 use libc::STDOUT_FILENO;
+use sets::limits;
+use sets::set1::Set1;
 ghost use mathlib.Core.Path.{_≡_};
 ghost use Rattle.ncc_check.specs.Input.{numberFrom};
 
-const PUBLIC_KEY: usize = 1760;
-
 // The key and the signature.
-const HEAD: usize = 4672;
+const HEAD: usize = Set1::PUBLIC_KEY + Set1::SIGNATURE;
 
 // One byte more than the longest message needs, so that a longer one is seen.
-const INPUT: usize = 37441;
+const INPUT: usize = HEAD + limits::MESSAGE_MAX + 1;
 
 // The number of an input's answer.
 fn number(input: &[u8]) -> u32
@@ -20,9 +20,9 @@ fn number(input: &[u8]) -> u32
     if input.len() < HEAD {
         return 1;
     }
-    let report = level1::check(
-        &input[..PUBLIC_KEY],
-        &input[PUBLIC_KEY..HEAD],
+    let report = set1::check(
+        &input[..Set1::PUBLIC_KEY],
+        &input[Set1::PUBLIC_KEY..HEAD],
         &input[HEAD..],
     ).report();
     report.number

@@ -6,16 +6,17 @@ use lib.Dec.{eqb, leb}
 use lib.IntN.{ℤ}
 use lib.ListN.{length}
 use Rattle.sets.specs.Set.{Set}
-use Rattle.sets.specs.declared.refusal.Buffer.the-variants.{Coefficients, Packed}
-use Rattle.sets.specs.declared.refusal.Refusal.{Refusal}
-use Rattle.sets.specs.declared.refusal.Refusal.the-variants.{Length, Hint}
-use Rattle.sets.specs.Result.{Result, done, refused, need, _>>_}
-use Rattle.sets.proofs.Outcomes.{equal, unequal, at-most, above}
+use Rattle.answers.specs.declared.Buffer.the-variants.{Coefficients, Packed}
+use Rattle.answers.specs.declared.Field.{Field}
+use Rattle.answers.specs.declared.Refusal.{Refusal}
+use Rattle.answers.specs.declared.Refusal.the-variants.{Length, Hint, Coefficient}
+use Rattle.answers.specs.Result.{Result, done, refused, need, _>>_}
+use Rattle.answers.proofs.Outcomes.{equal, unequal, at-most, above}
 use Rattle.packing.specs.declared.layout.Layout.{Layout}
-use Rattle.packing.specs.Layouts.{hintLayout, holds, every, size, pack, unpack}
+use Rattle.packing.specs.Layouts.{hintLayout, holds, every, size, pack, unpack, layoutOf}
 use Rattle.packing.specs.Parts.{ones, anyHint, readHints}
 use Rattle.packing.specs.Calls.{packCall, unpackCall, packHintsCall, unpackHintsCall}
-use Rattle.sets.proofs.Results.{then-done, then-refused}
+use Rattle.answers.proofs.Results.{then-done, then-refused}
 
 -- two lengths, then the rest of the call
 module _ {A : Type 0} (a b c d : ℕ) (r s : Refusal) (m : Result A) where
@@ -34,43 +35,52 @@ module _ {A : Type 0} (a b c d : ℕ) (r s : Refusal) (m : Result A) where
   unfolding lengths
   both-right e f = equal a b r (need (eqb c d) s >> m) e ∙ equal c d s m f
 
-module _ (L : Layout) (refusal : ℕ → Refusal) (n : ℕ) (values : List ℤ) (out : List ℕ) where
-  packing : Result (List ℕ)
-  packing = every (holds L) refusal 0 values >> done (pack L n values)
+module _ (p : Set) (f : Field) where
+  abbrev L : Layout
+  L = layoutOf p f
 
-  pub pack-wrong-values : (length values ≡ n → ⊥) → packCall L refusal n values out ≡ refused (Length Coefficients)
-  unfolding packCall lengths packing
-  pack-wrong-values e = first-wrong (length values) n (length out) (size L n) (Length Coefficients) (Length Packed) packing e
+  module _ (values : List ℤ) (out : List ℕ) where
+    packing : Result (List ℕ)
+    packing = every (holds L) (Coefficient f) 0 values >> done (pack L (p .n) values)
 
-  pub pack-wrong-out : length values ≡ n → (length out ≡ size L n → ⊥) → packCall L refusal n values out ≡ refused (Length Packed)
-  unfolding packCall lengths packing
-  pack-wrong-out e f = second-wrong (length values) n (length out) (size L n) (Length Coefficients) (Length Packed) packing e f
-
-  module _ (e : length values ≡ n) (f : length out ≡ size L n) where
-    pub pack-refused : (r : Refusal) → every (holds L) refusal 0 values ≡ refused r → packCall L refusal n values out ≡ refused r
+    pub pack-wrong-values : (length values ≡ p .n → ⊥) → packCall p f values out ≡ refused (Length Coefficients)
     unfolding packCall lengths packing
-    pack-refused r h =
-        both-right (length values) n (length out) (size L n) (Length Coefficients) (Length Packed) packing e f ∙
-        then-refused (every (holds L) refusal 0 values) r (done (pack L n values)) h
+    pack-wrong-values e = first-wrong (length values) (p .n) (length out) (size L (p .n)) (Length Coefficients) (Length Packed) packing e
 
-    pub pack-done : every (holds L) refusal 0 values ≡ done tt → packCall L refusal n values out ≡ done (pack L n values)
-    unfolding packCall lengths packing
-    pack-done h =
-        both-right (length values) n (length out) (size L n) (Length Coefficients) (Length Packed) packing e f ∙
-        then-done (every (holds L) refusal 0 values) tt (done (pack L n values)) h
+    module _ (e : length values ≡ p .n) where
+      pub pack-wrong-out : (length out ≡ size (layoutOf p f) (p .n) → ⊥) → packCall p f values out ≡ refused (Length Packed)
+      unfolding packCall lengths packing
+      pack-wrong-out g = second-wrong (length values) (p .n) (length out) (size L (p .n)) (Length Coefficients) (Length Packed) packing e g
 
-module _ (L : Layout) (refusal : ℕ → Refusal) (n : ℕ) (packed : List ℕ) (out : List ℤ) where
-  pub unpack-wrong-packed : (length packed ≡ size L n → ⊥) → unpackCall L refusal n packed out ≡ refused (Length Packed)
-  unfolding unpackCall lengths
-  unpack-wrong-packed e = first-wrong (length packed) (size L n) (length out) n (Length Packed) (Length Coefficients) (unpack L refusal n packed) e
+      module _ (g : length out ≡ size (layoutOf p f) (p .n)) where
+        pub pack-refused : (r : Refusal) → every (holds (layoutOf p f)) (Coefficient f) 0 values ≡ refused r → packCall p f values out ≡ refused r
+        unfolding packCall lengths packing
+        pack-refused r h =
+            both-right (length values) (p .n) (length out) (size L (p .n)) (Length Coefficients) (Length Packed) packing e g ∙
+            then-refused (every (holds L) (Coefficient f) 0 values) r (done (pack L (p .n) values)) h
 
-  pub unpack-wrong-out : length packed ≡ size L n → (length out ≡ n → ⊥) → unpackCall L refusal n packed out ≡ refused (Length Coefficients)
-  unfolding unpackCall lengths
-  unpack-wrong-out e f = second-wrong (length packed) (size L n) (length out) n (Length Packed) (Length Coefficients) (unpack L refusal n packed) e f
+        pub pack-done : every (holds (layoutOf p f)) (Coefficient f) 0 values ≡ done tt → packCall p f values out ≡ done (pack (layoutOf p f) (p .n) values)
+        unfolding packCall lengths packing
+        pack-done h =
+            both-right (length values) (p .n) (length out) (size L (p .n)) (Length Coefficients) (Length Packed) packing e g ∙
+            then-done (every (holds L) (Coefficient f) 0 values) tt (done (pack L (p .n) values)) h
 
-  pub unpack-goes : length packed ≡ size L n → length out ≡ n → unpackCall L refusal n packed out ≡ unpack L refusal n packed
-  unfolding unpackCall lengths
-  unpack-goes e f = both-right (length packed) (size L n) (length out) n (Length Packed) (Length Coefficients) (unpack L refusal n packed) e f
+  module _ (packed : List ℕ) (out : List ℤ) where
+    abbrev unpacking : Result (List ℤ)
+    unpacking = unpack L (Coefficient f) (p .n) packed
+
+    pub unpack-wrong-packed : (length packed ≡ size (layoutOf p f) (p .n) → ⊥) → unpackCall p f packed out ≡ refused (Length Packed)
+    unfolding unpackCall lengths
+    unpack-wrong-packed e = first-wrong (length packed) (size L (p .n)) (length out) (p .n) (Length Packed) (Length Coefficients) unpacking e
+
+    module _ (e : length packed ≡ size (layoutOf p f) (p .n)) where
+      pub unpack-wrong-out : (length out ≡ p .n → ⊥) → unpackCall p f packed out ≡ refused (Length Coefficients)
+      unfolding unpackCall lengths
+      unpack-wrong-out g = second-wrong (length packed) (size L (p .n)) (length out) (p .n) (Length Packed) (Length Coefficients) unpacking e g
+
+      pub unpack-goes : length out ≡ p .n → unpackCall p f packed out ≡ unpack (layoutOf p f) (Coefficient f) (p .n) packed
+      unfolding unpackCall lengths
+      unpack-goes g = both-right (length packed) (size L (p .n)) (length out) (p .n) (Length Packed) (Length Coefficients) unpacking e g
 
 -- the hints
 module _ (p : Set) (values : List ℤ) (out : List ℕ) where

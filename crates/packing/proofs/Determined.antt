@@ -1,20 +1,23 @@
 -- Each public contract of this crate permits one outcome.
-use mathlib.Core.Path.{refl, sym, _∙_}
+use mathlib.Core.Path.{_≡_, refl, sym, _∙_}
+use contract.Lifetimes.{Lfts}
 use denote.Ref.{now}
+use denote.Triple.Clauses.{AtExit}
+use borrow.Fn.Kinds.{Dens, resT, endedOf}
 use Rattle.outcome.proofs.One.{One, determined}
-use Rattle.sets.proofs.Outcomes.{determined-report}
-use Rattle.packing.proofs.layout.Layout.t1.Reads as layout-t1
-use Rattle.packing.proofs.layout.Layout.t1.Kinds as layout-t1-kinds
-use Rattle.packing.proofs.layout.Layout.t0.Reads as layout-t0
-use Rattle.packing.proofs.layout.Layout.t0.Kinds as layout-t0-kinds
-use Rattle.packing.proofs.layout.Layout.s.Reads as layout-s
-use Rattle.packing.proofs.layout.Layout.s.Kinds as layout-s-kinds
-use Rattle.packing.proofs.layout.Layout.z.Reads as layout-z
-use Rattle.packing.proofs.layout.Layout.z.Kinds as layout-z-kinds
+use Rattle.answers.proofs.Outcomes.{determined-report}
+use Rattle.packing.proofs.layout.Layout.of.Reads as layout-of
+use Rattle.packing.proofs.layout.Layout.of.Kinds as layout-of-kinds
+use Rattle.packing.proofs.parts.Whole.size.Reads as whole-size
+use Rattle.packing.proofs.parts.Whole.size.Kinds as whole-size-kinds
+use Rattle.packing.proofs.parts.Part.span.Reads as part-span
+use Rattle.packing.proofs.parts.Part.span.Kinds as part-span-kinds
+use Rattle.packing.proofs.parts.Part.of.Reads as part-of
+use Rattle.packing.proofs.parts.Part.of.Kinds as part-of-kinds
+use Rattle.packing.proofs.parts.Part.put.Reads as part-put
+use Rattle.packing.proofs.parts.Part.put.Kinds as part-put-kinds
 use Rattle.packing.proofs.layout.Layout.y.Reads as layout-y
 use Rattle.packing.proofs.layout.Layout.y.Kinds as layout-y-kinds
-use Rattle.packing.proofs.layout.Layout.w1.Reads as layout-w1
-use Rattle.packing.proofs.layout.Layout.w1.Kinds as layout-w1-kinds
 use Rattle.packing.proofs.layout.Layout.hint.Reads as layout-hint
 use Rattle.packing.proofs.layout.Layout.hint.Kinds as layout-hint-kinds
 use Rattle.packing.proofs.layout.Layout.size.Reads as layout-size
@@ -25,55 +28,58 @@ use Rattle.packing.proofs.unpack.count_ones.Reads as count-ones
 use Rattle.packing.proofs.unpack.count_ones.Kinds as count-ones-kinds
 use Rattle.packing.proofs.pack.codes_of.Reads as codes-of
 use Rattle.packing.proofs.pack.codes_of.Kinds as codes-of-kinds
-use Rattle.packing.proofs.level1.pack_t1.Reads as pack-t1
-use Rattle.packing.proofs.level1.pack_t1.Kinds as pack-t1-kinds
-use Rattle.packing.proofs.level1.unpack_t1.Reads as unpack-t1
-use Rattle.packing.proofs.level1.unpack_t1.Kinds as unpack-t1-kinds
-use Rattle.packing.proofs.level1.pack_t0.Reads as pack-t0
-use Rattle.packing.proofs.level1.pack_t0.Kinds as pack-t0-kinds
-use Rattle.packing.proofs.level1.unpack_t0.Reads as unpack-t0
-use Rattle.packing.proofs.level1.unpack_t0.Kinds as unpack-t0-kinds
-use Rattle.packing.proofs.level1.pack_s.Reads as pack-s
-use Rattle.packing.proofs.level1.pack_s.Kinds as pack-s-kinds
-use Rattle.packing.proofs.level1.unpack_s.Reads as unpack-s
-use Rattle.packing.proofs.level1.unpack_s.Kinds as unpack-s-kinds
-use Rattle.packing.proofs.level1.pack_z.Reads as pack-z
-use Rattle.packing.proofs.level1.pack_z.Kinds as pack-z-kinds
-use Rattle.packing.proofs.level1.unpack_z.Reads as unpack-z
-use Rattle.packing.proofs.level1.unpack_z.Kinds as unpack-z-kinds
-use Rattle.packing.proofs.level1.pack_w1.Reads as pack-w1
-use Rattle.packing.proofs.level1.pack_w1.Kinds as pack-w1-kinds
-use Rattle.packing.proofs.level1.unpack_w1.Reads as unpack-w1
-use Rattle.packing.proofs.level1.unpack_w1.Kinds as unpack-w1-kinds
-use Rattle.packing.proofs.level1.pack_hints.Reads as pack-hints
-use Rattle.packing.proofs.level1.pack_hints.Kinds as pack-hints-kinds
-use Rattle.packing.proofs.level1.unpack_hints.Reads as unpack-hints
-use Rattle.packing.proofs.level1.unpack_hints.Kinds as unpack-hints-kinds
+use Rattle.packing.proofs.set1.pack_t1.Reads as pack-t1
+use Rattle.packing.proofs.set1.pack_t1.Kinds as pack-t1-kinds
+use Rattle.packing.proofs.set1.unpack_t1.Reads as unpack-t1
+use Rattle.packing.proofs.set1.unpack_t1.Kinds as unpack-t1-kinds
+use Rattle.packing.proofs.set1.pack_t0.Reads as pack-t0
+use Rattle.packing.proofs.set1.pack_t0.Kinds as pack-t0-kinds
+use Rattle.packing.proofs.set1.unpack_t0.Reads as unpack-t0
+use Rattle.packing.proofs.set1.unpack_t0.Kinds as unpack-t0-kinds
+use Rattle.packing.proofs.set1.pack_s.Reads as pack-s
+use Rattle.packing.proofs.set1.pack_s.Kinds as pack-s-kinds
+use Rattle.packing.proofs.set1.unpack_s.Reads as unpack-s
+use Rattle.packing.proofs.set1.unpack_s.Kinds as unpack-s-kinds
+use Rattle.packing.proofs.set1.pack_z.Reads as pack-z
+use Rattle.packing.proofs.set1.pack_z.Kinds as pack-z-kinds
+use Rattle.packing.proofs.set1.unpack_z.Reads as unpack-z
+use Rattle.packing.proofs.set1.unpack_z.Kinds as unpack-z-kinds
+use Rattle.packing.proofs.set1.pack_w1.Reads as pack-w1
+use Rattle.packing.proofs.set1.pack_w1.Kinds as pack-w1-kinds
+use Rattle.packing.proofs.set1.unpack_w1.Reads as unpack-w1
+use Rattle.packing.proofs.set1.unpack_w1.Kinds as unpack-w1-kinds
+use Rattle.packing.proofs.set1.pack_hints.Reads as pack-hints
+use Rattle.packing.proofs.set1.pack_hints.Kinds as pack-hints-kinds
+use Rattle.packing.proofs.set1.unpack_hints.Reads as unpack-hints
+use Rattle.packing.proofs.set1.unpack_hints.Kinds as unpack-hints-kinds
 
 -- ---- the layouts
-pub layout-t1-one : One 0 layout-t1-kinds.ps layout-t1-kinds.r layout-t1.Post (λ κs s. tt {0})
-layout-t1-one κs a x y s t p q = (p ∙ sym q, refl)
-
-pub layout-t0-one : One 0 layout-t0-kinds.ps layout-t0-kinds.r layout-t0.Post (λ κs s. tt {0})
-layout-t0-one κs a x y s t p q = (p ∙ sym q, refl)
-
-pub layout-s-one : One 0 layout-s-kinds.ps layout-s-kinds.r layout-s.Post (λ κs s. tt {0})
-layout-s-one κs a x y s t p q = (p ∙ sym q, refl)
-
-pub layout-z-one : One 0 layout-z-kinds.ps layout-z-kinds.r layout-z.Post (λ κs s. tt {0})
-layout-z-one κs a x y s t p q = (p ∙ sym q, refl)
+pub layout-of-one : One 0 layout-of-kinds.ps layout-of-kinds.r layout-of.Post (λ κs s. tt {0})
+layout-of-one κs a x y s t p q = (p ∙ sym q, refl)
 
 pub layout-y-one : One 0 layout-y-kinds.ps layout-y-kinds.r layout-y.Post (λ κs s. tt {0})
 layout-y-one κs a x y s t p q = (p ∙ sym q, refl)
-
-pub layout-w1-one : One 0 layout-w1-kinds.ps layout-w1-kinds.r layout-w1.Post (λ κs s. tt {0})
-layout-w1-one κs a x y s t p q = (p ∙ sym q, refl)
 
 pub layout-hint-one : One 0 layout-hint-kinds.ps layout-hint-kinds.r layout-hint.Post (λ κs s. tt {0})
 layout-hint-one κs a x y s t p q = (p ∙ sym q, refl)
 
 pub layout-size-one : One 0 layout-size-kinds.ps layout-size-kinds.r layout-size.Post (λ κs s. tt {0})
 layout-size-one κs a x y s t p q = (p ∙ sym q, refl)
+
+-- ---- the parts of keys and signatures
+pub whole-size-one : One 0 whole-size-kinds.ps whole-size-kinds.r whole-size.Post (λ κs s. tt {0})
+whole-size-one κs a x y s t p q = (p ∙ sym q, refl)
+
+pub part-span-one : One 0 part-span-kinds.ps part-span-kinds.r part-span.Post (λ κs s. tt {0})
+part-span-one κs a x y s t p q = (λ i. record { start = (p .0 ∙ sym (q .0)) i; end = (p .1 ∙ sym (q .1)) i }, refl)
+
+-- the bytes of a part, which are lent and not copied: what the answer holds is one, and where it lies is not part of the contract
+pub part-of-one : (κs : Lfts 1) (a : Dens κs part-of-kinds.ps) (x y : resT part-of-kinds.r κs .Denot) (s t : AtExit (endedOf 1 part-of-kinds.ps part-of-kinds.r) κs)
+    → part-of.Post κs a x s → part-of.Post κs a y t → now x ≡ now y
+part-of-one κs a x y s t p q = p ∙ sym q
+
+pub part-put-one : One 2 part-put-kinds.ps part-put-kinds.r part-put.Post (λ κs s. now (s .1 .1 .0))
+part-put-one κs a x y s t p q = (refl, p ∙ sym q)
 
 -- ---- the inner functions
 pub unpack-one : One 2 unpack-kinds.ps unpack-kinds.r unpack.Post (λ κs s. now (s .1 .1 .1 .0))
@@ -85,7 +91,7 @@ codes-of-one κs a x y s t p q = determined _ x y (now (s .1 .1 .0)) (now (t .1 
 pub count-ones-one : One 1 count-ones-kinds.ps count-ones-kinds.r count-ones.Post (λ κs s. tt {0})
 count-ones-one κs a x y s t p q = (p ∙ sym q, refl)
 
--- ---- the calls of trinomial level 1
+-- ---- the calls of set 1
 pub pack-t1-one : One 2 pack-t1-kinds.ps pack-t1-kinds.r pack-t1.Post (λ κs s. now (s .1 .0))
 pack-t1-one κs a x y s t p q = determined-report _ x y (now (s .1 .0)) (now (t .1 .0)) p q
 

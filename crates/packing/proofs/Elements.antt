@@ -9,14 +9,14 @@ use lib.Dec.{lit<}
 use lib.Pow.{pow-pos, pow-mono}
 use lib.ListN.{length, getD, length-map}
 use lib.IntN.{ℤ, pos}
-use Rattle.sets.specs.declared.refusal.Refusal.{Refusal}
-use Rattle.sets.specs.Result.{done, _>>_, need}
+use Rattle.answers.specs.declared.Refusal.{Refusal}
+use Rattle.answers.specs.Result.{done, _>>_, need}
 use Rattle.digits.specs.Digits.{value, digits, codes, bytes}
 use Rattle.digits.proofs.Numbers.{Below, below-all, length-digits, digits-below, value-lt, value-digits, pow-mul, unpack-pack, pack-unpack-filled, length-bytes}
 use Rattle.digits.proofs.Codes.{below-at}
 use Rattle.packing.specs.declared.layout.Layout.{Layout}
 use Rattle.packing.specs.Layouts.{means, code, allowed, holds, every, size, pack, unpack}
-use Rattle.sets.proofs.Results.{then-inv, done-inv}
+use Rattle.answers.proofs.Results.{then-inv, done-inv}
 use Rattle.packing.proofs.Kept.{Kept, kept-code, kept-of, code-means}
 pub use Rattle.digits.proofs.Codes.{length-codes, codes-below}
 

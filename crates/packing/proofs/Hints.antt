@@ -8,10 +8,10 @@ use lib.ListN.{length, getD, take}
 use lib.Seq.{take-all}
 use lib.IntN.{ℤ, pos, natAbs}
 use Rattle.sets.specs.Set.{Set}
-use Rattle.sets.specs.declared.refusal.Refusal.{Refusal}
-use Rattle.sets.specs.declared.refusal.Refusal.the-variants.{Hint}
-use Rattle.sets.specs.Result.{done, refused}
-use Rattle.sets.proofs.Outcomes.{stops, gives, above, at-most}
+use Rattle.answers.specs.declared.Refusal.{Refusal}
+use Rattle.answers.specs.declared.Refusal.the-variants.{Hint}
+use Rattle.answers.specs.Result.{done, refused}
+use Rattle.answers.proofs.Outcomes.{stops, gives, above, at-most}
 use Rattle.residues.proofs.Remainders.{residue-small}
 use Rattle.digits.specs.Digits.{codes}
 use Rattle.digits.proofs.Codes.{codes-below}
@@ -19,7 +19,7 @@ use Rattle.packing.specs.declared.unpack.Unpacked.{Unpacked}
 use Rattle.packing.specs.declared.unpack.Unpacked.the-variants.{All}
 use Rattle.packing.specs.Layouts.{hintLayout, code, unpack}
 use Rattle.packing.specs.Parts.{ones, anyHint, readHints}
-use Rattle.packing.specs.Engine.{remainders}
+use Rattle.packing.specs.Inner.{remainders}
 use Rattle.packing.proofs.Reading.{some-q}
 use Rattle.packing.proofs.Packs.{Coding, codes-are, Decoding, read-remainders, read-means}
 

@@ -8,15 +8,16 @@ use lib.Dec.{eqb, leb}
 use lib.ListN.{length, getD}
 use lib.IntN.{ℤ, pos}
 use Rattle.sets.specs.Set.{Set}
-use Rattle.sets.specs.declared.refusal.Buffer.the-variants.{Coefficients, Packed}
-use Rattle.sets.specs.declared.refusal.Refusal.{Refusal}
-use Rattle.sets.specs.declared.refusal.Refusal.the-variants.{Length, Hint}
-use Rattle.sets.specs.Result.{done}
+use Rattle.answers.specs.declared.Buffer.the-variants.{Coefficients, Packed}
+use Rattle.answers.specs.declared.Field.{Field}
+use Rattle.answers.specs.declared.Refusal.{Refusal}
+use Rattle.answers.specs.declared.Refusal.the-variants.{Length, Hint, Coefficient}
+use Rattle.answers.specs.Result.{done}
 use Rattle.packing.specs.declared.layout.Layout.{Layout}
-use Rattle.packing.specs.Layouts.{hintLayout, holds, every, size, pack, unpack}
+use Rattle.packing.specs.Layouts.{hintLayout, holds, every, size, pack, unpack, layoutOf}
 use Rattle.packing.specs.Parts.{ones, anyHint, readHints}
 use Rattle.packing.specs.Calls.{packCall, unpackCall, packHintsCall, unpackHintsCall}
-use Rattle.sets.proofs.Results.{need-inv, then-inv, done-inv}
+use Rattle.answers.proofs.Results.{need-inv, then-inv, done-inv}
 use Rattle.packing.proofs.Kept.{holds-of}
 use Rattle.packing.proofs.Elements.{every-done, every-inv, Element, element-of, ZeroFill, length-pack, unpack-element, was-read, pack-unpacked}
 use Rattle.packing.proofs.Calling.{pack-done, unpack-goes, pack-hints-done, unpack-hints-goes}
@@ -31,29 +32,33 @@ module _ (L : Layout) (n : ℕ) where
   held refusal zs f l u e =
       element-of L n zs f (l, λ k h. every-inv (pos 0) (holds L) refusal 0 zs e k (omega (arith, l)))
 
+module _ (p : Set) (f : Field) where
+  abbrev L : Layout
+  L = layoutOf p f
+
   -- what packing answers, unpacking gives back
-  pub unpack-of-pack : L .most < 2 ^ L .bits → (refusal refusal′ : ℕ → Refusal) (zs room : List ℤ) (out bs : List ℕ)
-      → packCall L refusal n zs out ≡ done bs → length room ≡ n → unpackCall L refusal′ n bs room ≡ done zs
+  pub unpack-of-pack : layoutOf p f .most < 2 ^ layoutOf p f .bits → (zs room : List ℤ) (out bs : List ℕ)
+      → packCall p f zs out ≡ done bs → length room ≡ p .n → unpackCall p f bs room ≡ done zs
   unfolding packCall unpackCall
-  unpack-of-pack f refusal refusal′ zs room out bs e l =
-      let a = need-inv (eqb (length zs) n) (Length Coefficients) _ bs e in
-      let b = need-inv (eqb (length out) (size L n)) (Length Packed) _ bs (a .1) in
-      let c = then-inv (every (holds L) refusal 0 zs) (done (pack L n zs)) bs (b .1) in
-      let p : pack L n zs ≡ bs = done-inv (pack L n zs) bs (c .2) in
-      let E = held refusal zs f (eqb-true _ _ (a .0)) (c .0) (c .1) in
-      unpack-goes L refusal′ n bs room (ap length (sym p) ∙ length-pack L n zs) l ∙
-      ap (unpack L refusal′ n) (sym p) ∙ unpack-element L n refusal′ zs E
+  unpack-of-pack k zs room out bs e l =
+      let a = need-inv (eqb (length zs) (p .n)) (Length Coefficients) _ bs e in
+      let b = need-inv (eqb (length out) (size L (p .n))) (Length Packed) _ bs (a .1) in
+      let c = then-inv (every (holds L) (Coefficient f) 0 zs) (done (pack L (p .n) zs)) bs (b .1) in
+      let q : pack L (p .n) zs ≡ bs = done-inv (pack L (p .n) zs) bs (c .2) in
+      let E = held L (p .n) (Coefficient f) zs k (eqb-true _ _ (a .0)) (c .0) (c .1) in
+      unpack-goes p f bs room (ap length (sym q) ∙ length-pack L (p .n) zs) l ∙
+      ap (unpack L (Coefficient f) (p .n)) (sym q) ∙ unpack-element L (p .n) (Coefficient f) zs E
 
   -- what unpacking answers, packing gives back, where fill bits are zero
-  pub pack-of-unpack : (refusal refusal′ : ℕ → Refusal) (bs room : List ℕ) (out zs : List ℤ) → ((k : ℕ) → getD bs k 0 < 256) → ZeroFill L n bs
-      → unpackCall L refusal n bs out ≡ done zs → length room ≡ size L n → packCall L refusal′ n zs room ≡ done bs
+  pub pack-of-unpack : (bs room : List ℕ) (out zs : List ℤ) → ((k : ℕ) → getD bs k 0 < 256) → ZeroFill (layoutOf p f) (p .n) bs
+      → unpackCall p f bs out ≡ done zs → length room ≡ size (layoutOf p f) (p .n) → packCall p f zs room ≡ done bs
   unfolding unpackCall
-  pack-of-unpack refusal refusal′ bs room out zs b f e l =
-      let x = need-inv (eqb (length bs) (size L n)) (Length Packed) _ zs e in
-      let y = need-inv (eqb (length out) n) (Length Coefficients) (unpack L refusal n bs) zs (x .1) in
-      let E = was-read L n refusal bs zs (y .1) .element in
-      pack-done L refusal′ n zs room (E .long) l (every-held refusal′ zs E) ∙
-      ap done (pack-unpacked L n refusal bs zs b (eqb-true _ _ (x .0)) f (y .1))
+  pack-of-unpack bs room out zs b k e l =
+      let x = need-inv (eqb (length bs) (size L (p .n))) (Length Packed) _ zs e in
+      let y = need-inv (eqb (length out) (p .n)) (Length Coefficients) (unpack L (Coefficient f) (p .n) bs) zs (x .1) in
+      let E = was-read L (p .n) (Coefficient f) bs zs (y .1) .element in
+      pack-done p f zs room (E .long) l (every-held L (p .n) (Coefficient f) zs E) ∙
+      ap done (pack-unpacked L (p .n) (Coefficient f) bs zs b (eqb-true _ _ (x .0)) k (y .1))
 
 -- the hints
 module _ (p : Set) where

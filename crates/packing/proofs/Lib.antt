@@ -3,6 +3,7 @@ pub mod Kept
 pub mod Elements
 pub mod Joins
 pub mod Room
+pub mod Standing
 pub mod Wholes
 pub mod WholesFirst
 pub mod Calling

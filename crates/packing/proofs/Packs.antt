@@ -7,11 +7,9 @@ use lib.Pow.{pow-pos}
 use lib.ListN.{length, getD, length-map}
 use lib.IntN.{ℤ, pos}
 use Rattle.outcome.specs.Outcome.{Is}
-use Rattle.sets.specs.Set.{Set}
-use Rattle.sets.specs.declared.refusal.Refusal.{Refusal}
-use Rattle.sets.specs.declared.refusal.Refusal.the-variants.{Hint}
-use Rattle.sets.specs.declared.refusal.Report.{Report}
-use Rattle.sets.specs.Result.{done, refused, outcome}
+use Rattle.answers.specs.declared.Refusal.{Refusal}
+use Rattle.answers.specs.declared.Refusal.the-variants.{Hint}
+use Rattle.answers.specs.Result.{done, refused}
 use Rattle.residues.specs.Remainder.{signed}
 use Rattle.digits.specs.Digits.{codes, bytes, byteCount}
 use Rattle.digits.proofs.Codes.{below-at, length-codes}
@@ -19,8 +17,7 @@ use Rattle.packing.specs.declared.layout.Layout.{Layout}
 use Rattle.packing.specs.declared.unpack.Unpacked.{Unpacked}
 use Rattle.packing.specs.declared.unpack.Unpacked.the-variants.{All, BadAt}
 use Rattle.packing.specs.Layouts.{means, code, allowed, holds, every, size, pack, unpack}
-use Rattle.packing.specs.Calls.{packCall, unpackCall}
-use Rattle.packing.specs.Engine.{Readable, scan, takenTo, unpackedTo, remainder, remainders}
+use Rattle.packing.specs.Inner.{Readable, scan, takenTo, unpackedTo, remainder, remainders}
 use Rattle.packing.proofs.Elements.{every-inv, Element, element-of, below-kept}
 use Rattle.packing.proofs.Scans.{every-all, every-bad, all-taken, bad-found}
 use Rattle.packing.proofs.Reading.{signed-remainders, remainders-below, unpack-all, unpack-bad}
@@ -113,17 +110,7 @@ module _ {L : Layout} {q n : ℕ} {packed : List ℕ} {found : Unpacked} {xs : L
     read-long = ap length (scanned .1) ∙ length-map vs (remainder L q) ∙ length-codes (L .bits) n packed
 
 -- ---- the layout that a constructor made
-module _ (row : Set → Layout) (p p′ : Set) (L : Layout) (made : L ≡ row p) (e : p ≡ p′) where
-  pub same-row : L ≡ row p′
-  same-row = made ∙ ap row e
-
 module _ {L M : Layout} (e : L ≡ M) where
-  pub pack-as : (refusal : ℕ → Refusal) (n : ℕ) (values : List ℤ) (out : List ℕ) (a : Report) (b : List ℕ) → Is (outcome (packCall L refusal n values out) out) a b → Is (outcome (packCall M refusal n values out) out) a b
-  pack-as refusal n values out a b = subst (λ (X : Layout). Is (outcome (packCall X refusal n values out) out) a b) e
-
-  pub unpack-as : (refusal : ℕ → Refusal) (n : ℕ) (packed : List ℕ) (out : List ℤ) (a : Report) (b : List ℤ) → Is (outcome (unpackCall L refusal n packed out) out) a b → Is (outcome (unpackCall M refusal n packed out) out) a b
-  unpack-as refusal n packed out a b = subst (λ (X : Layout). Is (outcome (unpackCall X refusal n packed out) out) a b) e
-
   pub taken-as : (values : List ℤ) (old : List ℕ) (found : Unpacked) (cs : List ℕ) → Is (takenTo (holds L) (code L) values old) found cs → Is (takenTo (holds M) (code M) values old) found cs
   taken-as values old found cs = subst (λ (X : Layout). Is (takenTo (holds X) (code X) values old) found cs) e
 

@@ -8,8 +8,8 @@ use native.Mathlib.Omega.{arith}
 use borrow.Author.Tests.{le-leb, lt-leb}
 use lib.ListN.{getD}
 use lib.IntN.{pos, natAbs, _-ℤ_}
-use Rattle.sets.specs.declared.refusal.Refusal.{Refusal}
-use Rattle.sets.specs.Result.{done, refused, pick}
+use Rattle.answers.specs.declared.Refusal.{Refusal}
+use Rattle.answers.specs.Result.{done, refused, pick}
 use Rattle.residues.specs.Remainder.{residue, signed, centred}
 use Rattle.residues.proofs.Differences.{pos-sub, sub-ge, sub-lt, abs-sub}
 use Rattle.residues.proofs.Remainders.{residue-lt, residue-small}
@@ -20,8 +20,8 @@ use Rattle.packing.specs.declared.unpack.Code.{Code}
 use Rattle.packing.specs.declared.unpack.Code.the-variants.{Good, Bad}
 use Rattle.packing.specs.declared.unpack.Unpacked.the-variants.{All, BadAt}
 use Rattle.packing.specs.Layouts.{means, allowed, unpack}
-use Rattle.packing.specs.Engine.{Readable, taken, scan, remainder, remainders}
-use Rattle.sets.proofs.Results.{then-done, then-refused}
+use Rattle.packing.specs.Inner.{Readable, taken, scan, remainder, remainders}
+use Rattle.answers.proofs.Results.{then-done, then-refused}
 use Rattle.packing.proofs.Kept.{allowed-ends}
 use Rattle.packing.proofs.Scans.{every-all, every-bad}
 

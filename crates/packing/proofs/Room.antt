@@ -5,8 +5,10 @@ use native.Mathlib.Omega.{arith}
 use lib.Pow.{pow-pos}
 use Rattle.sets.specs.Set.{Set, alpha, steps}
 use Rattle.sets.specs.Good.{Good}
-use Rattle.packing.specs.Layouts.{t1Layout, t0Layout, sLayout, zLayout, yLayout, w1Layout, hintLayout}
-use Rattle.packing.specs.Engine.{Readable}
+use Rattle.answers.specs.declared.Field.{Field}
+use Rattle.answers.specs.declared.Field.the-variants.{T1, T0, S1, S2, S, Z, W1}
+use Rattle.packing.specs.Layouts.{t1Layout, t0Layout, sLayout, zLayout, yLayout, w1Layout, hintLayout, layoutOf}
+use Rattle.packing.specs.Inner.{Readable}
 
 module _ (p : Set) (good : Good p) where
   -- a step is two wide or more, and there are two or more
@@ -63,6 +65,16 @@ module _ (p : Set) (good : Good p) where
 
   pub hint-readable : Readable hintLayout (p .q)
   hint-readable = record { some = omega arith; width = omega arith; fits = omega arith; base = omega (arith, many-steps); most = omega (arith, many-steps, good .many); room = good .qRoom }
+
+-- every field's layout
+pub field-readable : (p : Set) → Good p → (f : Field) → Readable (layoutOf p f) (p .q)
+field-readable p G T1 = t1-readable p G
+field-readable p G T0 = t0-readable p G
+field-readable p G S1 = s-readable p G
+field-readable p G S2 = s-readable p G
+field-readable p G S = s-readable p G
+field-readable p G Z = z-readable p G
+field-readable p G W1 = w1-readable p G
 
 -- the bits of an element
 pub bits-room : (w n : ℕ) → w ≤ 20 → n ≤ 4096 → w * n ≤ 20 * 4096

@@ -8,15 +8,15 @@ use native.Mathlib.Omega.{arith}
 use lib.ListN.{length, getD, drop, set, drop-of-length-le}
 use lib.Seq.{drop-cons}
 use Rattle.outcome.specs.Outcome.{Is}
-use Rattle.sets.specs.declared.refusal.Refusal.{Refusal}
-use Rattle.sets.specs.Result.{done, refused, need, pick, _>>_}
+use Rattle.answers.specs.declared.Refusal.{Refusal}
+use Rattle.answers.specs.Result.{done, refused, need, pick, _>>_}
 use Rattle.buffers.proofs.Changes.{Changed, changed-none, changed-more, changed-all}
 use Rattle.packing.specs.declared.unpack.Code.{Code}
 use Rattle.packing.specs.declared.unpack.Code.the-variants.{Good, Bad}
 use Rattle.packing.specs.declared.unpack.Unpacked.{Unpacked}
 use Rattle.packing.specs.declared.unpack.Unpacked.the-variants.{All, BadAt}
 use Rattle.packing.specs.Layouts.{every}
-use Rattle.packing.specs.Engine.{taken, scan, writtenTo, takenTo}
+use Rattle.packing.specs.Inner.{taken, scan, writtenTo, takenTo}
 
 -- what is left of a scan
 module _ {A : Type 0} (d : A) (ok : A → Bool) (xs : List A) (i : ℕ) where

@@ -1,4 +1,4 @@
--- Keys and signatures: reading and packing are inverse on what 01 allows, over the set.
+-- Keys and signatures: reading and packing are inverse on the values that are allowed (SPEC 6), over the set.
 use mathlib.Core.Path.{_≡_, refl, sym, ap, _∙_}
 use mathlib.Core.List.{List, [], _∷_}
 use Prim.Native.Nat.{ℕ, _≤_, _<_}
@@ -8,13 +8,13 @@ use lib.ListN.{length, getD}
 use lib.IntN.{ℤ}
 use Rattle.sets.specs.Set.{Set, seedSize}
 use Rattle.sets.specs.Good.{Good}
-use Rattle.sets.specs.declared.refusal.Field.the-variants.{T1, T0, S1, S2, Z}
-use Rattle.sets.specs.declared.refusal.Refusal.the-variants.{Coefficient, Hint}
-use Rattle.sets.specs.Result.{done, _>>=_, _>>_, need}
+use Rattle.answers.specs.declared.Field.the-variants.{T1, T0, S1, S2, Z}
+use Rattle.answers.specs.declared.Refusal.the-variants.{Coefficient, Hint}
+use Rattle.answers.specs.Result.{done, _>>=_, _>>_, need}
 use Rattle.packing.specs.Layouts.{t1Layout, t0Layout, sLayout, zLayout, hintLayout, pack, unpack}
 use Rattle.packing.specs.Parts.{cut, total, part, publicParts, secretParts, signatureParts, ones, anyHint}
 use Rattle.packing.specs.Parts.{PublicKey, SecretKey, Signature, packPublic, packSecret, packSignature, readPublic, readSecret, readHints, readSignature}
-use Rattle.sets.proofs.Results.{bind-inv, need-inv, done-inv}
+use Rattle.answers.proofs.Results.{bind-inv, need-inv, done-inv}
 use Rattle.packing.proofs.Elements.{Element, Allowed, element-of, ZeroFill, Full, length-pack, unpack-element, was-read, pack-unpacked, no-fill}
 use Rattle.packing.proofs.Room.{t1-readable, t0-readable, s-readable, z-readable, hint-readable}
 use Rattle.packing.proofs.Joins.{cut-join, join-cut, sizes-cut, part-bytes}

@@ -14,11 +14,11 @@ use mir.ValLaws.{toZ-pos}
 use Rattle.residues.proofs.Order.{below-or}
 use Rattle.residues.proofs.Machine.{back}
 use Rattle.residues.proofs.Differences.{pos-sub, sub-ge, sub-lt}
-use Rattle.sets.specs.Result.{pick}
+use Rattle.answers.specs.Result.{pick}
 use Rattle.packing.specs.declared.layout.Layout.{Layout}
 use Rattle.packing.specs.declared.unpack.Code.the-variants.{Good, Bad}
 use Rattle.packing.specs.Layouts.{written, code, isCode, holds}
-use Rattle.packing.specs.Engine.{taken}
+use Rattle.packing.specs.Inner.{taken}
 use Rattle.packing.proofs.Kept.{allowed-of}
 
 sub-small : (b : ℕ) (z : ℤ) → b < 2 ^ 32 → mag z < 2 ^ 31 → mag (pos b -ℤ z) < 2 ^ 63

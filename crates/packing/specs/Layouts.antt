@@ -1,52 +1,59 @@
--- The packed layouts (01, "Packed layouts"). "All pack lowest bit first, coefficient 0 first."
+-- The packed layouts (SPEC 6).
 use Prim.Native.Nat.{ℕ, zero, suc, _+_, _-_, _*_, _^_}
 use mathlib.Core.Bool.{Bool, true, false, cond, _&&_}
 use mathlib.Core.List.{List, [], _∷_, map}
 use lib.Dec.{leb}
 use lib.IntN.{ℤ, pos, negsuc, natAbs, _-ℤ_}
 use Rattle.sets.specs.Set.{Set, steps}
-use Rattle.sets.specs.declared.refusal.Refusal.{Refusal}
-use Rattle.sets.specs.Result.{Result, done, _>>_, need}
+use Rattle.answers.specs.declared.Field.{Field}
+use Rattle.answers.specs.declared.Field.the-variants.{T1, T0, S1, S2, S, Z, W1}
+use Rattle.answers.specs.declared.Refusal.{Refusal}
+use Rattle.answers.specs.Result.{Result, done, _>>_, need}
 use Rattle.digits.specs.Digits.{codes, bytes, byteCount}
 use Rattle.packing.specs.declared.layout.Layout.{Layout}
 
--- a row of 01's table is a value of the code's own struct: the width of a code in bits, whether the code is the value itself or base - value (down),
--- and the codes that are allowed
+-- SPEC 6.2: a layout is a value of the code's own struct: the width of a code in bits, whether the code is the value itself or base - value (down), and
+-- the codes that are allowed
 abbrev pub plain : ℕ → ℕ → Layout
 plain bits most = record { bits = bits; down = false; base = 0; least = 0; most = most }
 
 abbrev pub down : ℕ → ℕ → ℕ → ℕ → Layout
 down bits base least most = record { bits = bits; down = true; base = base; least = least; most = most }
 
--- t1: 12 bits, code t1, "0..2051"
+-- SPEC 6.3
 abbrev pub t1Layout : Set → Layout
 t1Layout p = plain (p .t1bits) (p .t1top)
 
--- t0: 12 bits, code "2048 - t0", "-2047..2048, every code"
 abbrev pub t0Layout : Set → Layout
 t0Layout p = down (p .d) (2 ^ (p .d - 1)) 0 (2 ^ p .d - 1)
 
--- s1, s2: 2 bits, code "1 - s", "-1..1"
 abbrev pub sLayout : Set → Layout
 sLayout p = down (p .sbits) (p .eta) 0 (2 * p .eta)
 
--- z: 19 bits, code "262144 - z", "-262093..262093, codes 51..524237"
 abbrev pub zLayout : Set → Layout
 zLayout p = down (p .zbits) (p .gamma1) (p .beta + 1) (2 * p .gamma1 - (p .beta + 1))
 
--- y: "unpacked as 19-bit codes v, coefficient γ1 - v", every code
+-- SPEC 5.4: every code
 abbrev pub yLayout : Set → Layout
 yLayout p = down (p .zbits) (p .gamma1) 0 (2 ^ p .zbits - 1)
 
--- w1: 5 bits, code w1, "0..31"
 abbrev pub w1Layout : Set → Layout
 w1Layout p = plain (p .w1bits) (steps p - 1)
 
--- "1,152 hint bits, one for each coefficient"
 abbrev pub hintLayout : Layout
 hintLayout = plain 1 1
 
--- what a code means, and the code of a value, as a whole number
+-- the layout of each field
+abbrev pub layoutOf : Set → Field → Layout
+layoutOf p T1 = t1Layout p
+layoutOf p T0 = t0Layout p
+layoutOf p S1 = sLayout p
+layoutOf p S2 = sLayout p
+layoutOf p S = sLayout p
+layoutOf p Z = zLayout p
+layoutOf p W1 = w1Layout p
+
+-- SPEC 6.2: what a code means, and the code of a value, as a whole number
 abbrev pub means : Layout → ℕ → ℤ
 means L v = cond (L .down) (pos (L .base) -ℤ pos v) (pos v)
 
@@ -67,19 +74,20 @@ isCode L (negsuc v) = false
 abbrev pub holds : Layout → ℤ → Bool
 holds L z = isCode L (written L z)
 
--- every element passes the test, or the lowest index of one that does not is refused
+-- SPEC 6.5: every element passes the test, or the lowest index of one that does not is refused
 unfoldable pub every : {A : Type 0} → (A → Bool) → (ℕ → Refusal) → ℕ → List A → Result (Unit {0})
 every ok refusal i [] = done tt
 every ok refusal i (x ∷ xs) = need (ok x) (refusal i) >> every ok refusal (suc i) xs
 
--- the bytes of n coefficients
+-- SPEC 6.4: the bytes of n coefficients
 abbrev pub size : Layout → ℕ → ℕ
 size L n = byteCount (L .bits) n
 
+-- SPEC 6.1: the bytes of values that are allowed
 unfoldable pub pack : Layout → ℕ → List ℤ → List ℕ
 pack L n zs = bytes (L .bits) (size L n) (map (code L) zs)
 
--- n coefficients: each code must be allowed
+-- SPEC 6.5: n coefficients, of which each code must be allowed
 unfoldable pub unpack : Layout → (ℕ → Refusal) → ℕ → List ℕ → Result (List ℤ)
 unpack L refusal n bs =
     do

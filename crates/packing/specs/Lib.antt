@@ -1,5 +1,5 @@
--- The packed layouts: codes, elements, keys and signatures, what the calls answer, and what the inner functions ask and answer.
+-- The packed layouts: codes, elements, keys and signatures, and what the calls answer. Inner is for functions inside.
 pub mod Layouts
 pub mod Parts
 pub mod Calls
-pub mod Engine
+pub mod Inner

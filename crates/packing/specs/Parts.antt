@@ -1,15 +1,20 @@
--- Keys and signatures as wholes: parts one after the other (01, "Packed layouts").
+-- Keys and signatures as wholes: parts one after the other (SPEC 6.7 to 6.10).
 use Prim.Native.Nat.{ℕ, _+_}
 use mathlib.Core.List.{List, [], _∷_, _++_}
 use lib.Dec.{leb}
 use lib.ListN.{take, drop, getD}
 use lib.IntN.{ℤ, natAbs}
-use Rattle.sets.specs.Set.{Set, seedSize}
-use Rattle.sets.specs.declared.refusal.Field.the-variants.{T1, T0, S1, S2, Z}
-use Rattle.sets.specs.declared.refusal.Refusal.the-variants.{Coefficient, Hint}
-use Rattle.sets.specs.declared.refusal.Refusal.{Refusal}
-use Rattle.sets.specs.Result.{Result, done, _>>=_, _>>_, need}
-use Rattle.packing.specs.Layouts.{t1Layout, t0Layout, sLayout, zLayout, hintLayout, size, pack, unpack}
+use Rattle.sets.specs.Set.{Set, seedSize, hashSize}
+use Rattle.answers.specs.declared.Field.{Field}
+use Rattle.answers.specs.declared.Field.the-variants as field
+use Rattle.answers.specs.declared.Refusal.the-variants.{Coefficient, Hint}
+use Rattle.answers.specs.declared.Refusal.{Refusal}
+use Rattle.answers.specs.Result.{Result, done, _>>=_, _>>_, need}
+use Rattle.packing.specs.declared.parts.Whole.{Whole}
+use Rattle.packing.specs.declared.parts.Whole.the-variants as whole
+use Rattle.packing.specs.declared.parts.Part.{Part}
+use Rattle.packing.specs.declared.parts.Part.the-variants.{PublicZeta, T1, SecretZeta, Ph, K, S1, S2, T0, Commitment, Z, Hints, Xi1, Xi2, NewK}
+use Rattle.packing.specs.Layouts.{t1Layout, t0Layout, sLayout, zLayout, hintLayout, layoutOf, size, pack, unpack}
 
 -- parts of given lengths, one after the other, and back
 unfoldable pub cut : List ℕ → List ℕ → List (List ℕ)
@@ -28,24 +33,91 @@ total (m ∷ ms) = m + total ms
 abbrev pub part : List ℕ → ℕ → List ℕ → List ℕ
 part ms i bs = getD (cut ms bs) i []
 
--- "Public key: ζ, t1 (32 + 1728)."
+-- SPEC 6.7: ζ, t1
 abbrev pub publicParts : Set → List ℕ
 publicParts p = seedSize ∷ size (t1Layout p) (p .n) ∷ []
 
--- "Secret key: ζ, ph, K, s1, s2, t0 (96 + 288 + 288 + 1728)."
+-- SPEC 6.8: ζ, ph, K, s1, s2, t0
 abbrev pub secretParts : Set → List ℕ
-secretParts p = seedSize ∷ 32 ∷ 32 ∷ size (sLayout p) (p .n) ∷ size (sLayout p) (p .n) ∷ size (t0Layout p) (p .n) ∷ []
+secretParts p = seedSize ∷ hashSize ∷ seedSize ∷ size (sLayout p) (p .n) ∷ size (sLayout p) (p .n) ∷ size (t0Layout p) (p .n) ∷ []
 
--- "Signature: c̃, z, and 1,152 hint bits, one for each coefficient (32 + 2736 + 144)."
+-- SPEC 6.9: c̃, z, the hints
 abbrev pub signatureParts : Set → List ℕ
-signatureParts p = 32 ∷ size (zLayout p) (p .n) ∷ size hintLayout (p .n) ∷ []
+signatureParts p = hashSize ∷ size (zLayout p) (p .n) ∷ size hintLayout (p .n) ∷ []
+
+-- SPEC 7.1: ξ1, ξ2, K, as ζ' gives them
+abbrev pub seedParts : List ℕ
+seedParts = seedSize ∷ seedSize ∷ seedSize ∷ []
+
+-- how long each of them is
+abbrev pub publicSize : Set → ℕ
+publicSize p = total (publicParts p)
+
+abbrev pub secretSize : Set → ℕ
+secretSize p = total (secretParts p)
+
+abbrev pub signatureSize : Set → ℕ
+signatureSize p = total (signatureParts p)
+
+abbrev pub seedsSize : ℕ
+seedsSize = total seedParts
+
+-- the parts by name: the whole that each belongs to, and which of its parts it is
+abbrev pub wholeOf : Part → Whole
+wholeOf PublicZeta = whole.PublicKey
+wholeOf T1 = whole.PublicKey
+wholeOf SecretZeta = whole.SecretKey
+wholeOf Ph = whole.SecretKey
+wholeOf K = whole.SecretKey
+wholeOf S1 = whole.SecretKey
+wholeOf S2 = whole.SecretKey
+wholeOf T0 = whole.SecretKey
+wholeOf Commitment = whole.Signature
+wholeOf Z = whole.Signature
+wholeOf Hints = whole.Signature
+wholeOf Xi1 = whole.Seeds
+wholeOf Xi2 = whole.Seeds
+wholeOf NewK = whole.Seeds
+
+abbrev pub rank : Part → ℕ
+rank PublicZeta = 0
+rank T1 = 1
+rank SecretZeta = 0
+rank Ph = 1
+rank K = 2
+rank S1 = 3
+rank S2 = 4
+rank T0 = 5
+rank Commitment = 0
+rank Z = 1
+rank Hints = 2
+rank Xi1 = 0
+rank Xi2 = 1
+rank NewK = 2
+
+abbrev pub partsIn : Set → Whole → List ℕ
+partsIn p whole.PublicKey = publicParts p
+partsIn p whole.SecretKey = secretParts p
+partsIn p whole.Signature = signatureParts p
+partsIn p whole.Seeds = seedParts
+
+abbrev pub partsOf : Set → Part → List ℕ
+partsOf p x = partsIn p (wholeOf x)
+
+-- the bytes of a part in its whole
+abbrev pub bytesOf : Set → Part → List ℕ → List ℕ
+bytesOf p x bs = part (partsOf p x) (rank x) bs
+
+-- a field of coefficients, read from its part
+abbrev pub fieldIn : Set → Field → Part → List ℕ → Result (List ℤ)
+fieldIn p f x bs = unpack (layoutOf p f) (Coefficient f) (p .n) (bytesOf p x bs)
 
 -- how many of the hints are ones
 unfoldable pub ones : List ℤ → ℕ
 ones [] = 0
 ones (x ∷ xs) = natAbs x + ones xs
 
--- refusal 6, which names no place
+-- SPEC 6.6: refusal 6 names no place
 abbrev pub anyHint : ℕ → Refusal
 anyHint i = Hint
 
@@ -81,26 +153,26 @@ packSignature p σ = join (σ .c~ ∷ pack (zLayout p) (p .n) (σ .z) ∷ pack h
 unfoldable pub readPublic : Set → List ℕ → Result PublicKey
 readPublic p bs =
     do
-      t1 ← unpack (t1Layout p) (Coefficient T1) (p .n) (part (publicParts p) 1 bs)
-      done record { zeta = part (publicParts p) 0 bs; t1 = t1 }
+      t1 ← fieldIn p field.T1 T1 bs
+      done record { zeta = bytesOf p PublicZeta bs; t1 = t1 }
 
--- "in a secret key s1 is read before s2 and s2 before t0"
+-- SPEC 6.10: s1 is read before s2 and s2 before t0
 unfoldable pub readSecret : Set → List ℕ → Result SecretKey
 readSecret p bs =
     do
-      s1 ← unpack (sLayout p) (Coefficient S1) (p .n) (part (secretParts p) 3 bs)
-      s2 ← unpack (sLayout p) (Coefficient S2) (p .n) (part (secretParts p) 4 bs)
-      t0 ← unpack (t0Layout p) (Coefficient T0) (p .n) (part (secretParts p) 5 bs)
+      s1 ← fieldIn p field.S1 S1 bs
+      s2 ← fieldIn p field.S2 S2 bs
+      t0 ← fieldIn p field.T0 T0 bs
       done record {
-        zeta = part (secretParts p) 0 bs;
-        ph = part (secretParts p) 1 bs;
-        k = part (secretParts p) 2 bs;
+        zeta = bytesOf p SecretZeta bs;
+        ph = bytesOf p Ph bs;
+        k = bytesOf p K bs;
         s1 = s1;
         s2 = s2;
         t0 = t0;
       }
 
--- "6: a hint value other than 0 or 1, or more than 80 ones"
+-- SPEC 6.6: a hint other than 0 or 1, or more than ω ones
 unfoldable pub readHints : Set → List ℕ → Result (List ℤ)
 readHints p bs =
     do
@@ -111,6 +183,6 @@ readHints p bs =
 unfoldable pub readSignature : Set → List ℕ → Result Signature
 readSignature p bs =
     do
-      z ← unpack (zLayout p) (Coefficient Z) (p .n) (part (signatureParts p) 1 bs)
-      h ← readHints p (part (signatureParts p) 2 bs)
-      done record { c~ = part (signatureParts p) 0 bs; z = z; h = h }
+      z ← fieldIn p field.Z Z bs
+      h ← readHints p (bytesOf p Hints bs)
+      done record { c~ = bytesOf p Commitment bs; z = z; h = h }

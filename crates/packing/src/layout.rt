@@ -1,9 +1,10 @@
-// A row of 01's table of layouts.
+// A layout: a row of the table in SPEC 6.3.
+use answers::Field;
 use sets::numbers::Numbers;
 ghost use mathlib.Core.Path.{_≡_};
 ghost use Prim.Native.Nat.{_≤_};
 ghost use Rattle.sets.specs.Good.{Good};
-ghost use Rattle.packing.specs.Layouts.{plain, down, t1Layout, t0Layout, sLayout, zLayout, yLayout, w1Layout, hintLayout, size};
+ghost use Rattle.packing.specs.Layouts.{plain, down, t1Layout, t0Layout, sLayout, zLayout, yLayout, w1Layout, hintLayout, layoutOf, size};
 
 // A code has `bits` bits. It is the value itself or, where `down` holds, base - value. Codes from `least` to `most` are allowed.
 pub struct Layout {
@@ -41,39 +42,35 @@ impl Layout {
         }
     }
 
-    // "0..2051"
-    pub fn t1(p: Numbers) -> Layout
+    fn t1(p: Numbers) -> Layout
         requires { ⌜ Good p ⌝ }
         ensures { λ r. ⌜ r ≡ t1Layout p ⌝ }
     {
         Layout::plain(p.t1bits, p.t1top)
     }
 
-    // "2048 - t0", "every code"
-    pub fn t0(p: Numbers) -> Layout
+    fn t0(p: Numbers) -> Layout
         requires { ⌜ Good p ⌝ }
         ensures { λ r. ⌜ r ≡ t0Layout p ⌝ }
     {
         Layout::down(p.d as usize, 1u32 << (p.d - 1), 0, (1u32 << p.d) - 1)
     }
 
-    // "1 - s", "-1..1"
-    pub fn s(p: Numbers) -> Layout
+    fn s(p: Numbers) -> Layout
         requires { ⌜ Good p ⌝ }
         ensures { λ r. ⌜ r ≡ sLayout p ⌝ }
     {
         Layout::down(p.sbits, p.eta, 0, 2 * p.eta)
     }
 
-    // "262144 - z", "codes 51..524237"
-    pub fn z(p: Numbers) -> Layout
+    fn z(p: Numbers) -> Layout
         requires { ⌜ Good p ⌝ }
         ensures { λ r. ⌜ r ≡ zLayout p ⌝ }
     {
         Layout::down(p.zbits, p.gamma1, p.beta + 1, 2 * p.gamma1 - (p.beta + 1))
     }
 
-    // "19-bit codes v, coefficient γ1 - v", every code
+    // SPEC 5.4: every code.
     pub fn y(p: Numbers) -> Layout
         requires { ⌜ Good p ⌝ }
         ensures { λ r. ⌜ r ≡ yLayout p ⌝ }
@@ -81,19 +78,33 @@ impl Layout {
         Layout::down(p.zbits, p.gamma1, 0, (1u32 << (p.zbits as u32)) - 1)
     }
 
-    // "0..31"
-    pub fn w1(p: Numbers) -> Layout
+    fn w1(p: Numbers) -> Layout
         requires { ⌜ Good p ⌝ }
         ensures { λ r. ⌜ r ≡ w1Layout p ⌝ }
     {
         Layout::plain(p.w1bits, (p.q - 1) / (2 * p.gamma2) - 1)
     }
 
-    // "one for each coefficient"
     pub fn hint() -> Layout
         ensures { λ r. ⌜ r ≡ hintLayout ⌝ }
     {
         Layout::plain(1, 1)
+    }
+
+    // The layout of a field.
+    pub fn of(p: Numbers, f: Field) -> Layout
+        requires { ⌜ Good p ⌝ }
+        ensures { λ r. ⌜ r ≡ layoutOf p f ⌝ }
+    {
+        match f {
+            Field::T1 => Layout::t1(p),
+            Field::T0 => Layout::t0(p),
+            Field::S1 => Layout::s(p),
+            Field::S2 => Layout::s(p),
+            Field::S => Layout::s(p),
+            Field::Z => Layout::z(p),
+            Field::W1 => Layout::w1(p),
+        }
     }
 
     // The bytes of n coefficients.

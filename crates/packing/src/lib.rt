@@ -1,5 +1,6 @@
-// The five packed layouts and the hint bits (01, "Packed layouts").
+// The packed layouts, and the parts of keys and signatures (SPEC 6).
 pub mod layout;
-pub mod level1;
 pub mod pack;
+pub mod parts;
+pub mod set1;
 pub mod unpack;

@@ -6,7 +6,7 @@ ghost use mathlib.Core.Path.{_≡_};
 ghost use lib.ListN.{length};
 ghost use Rattle.outcome.specs.Outcome.{Is};
 ghost use Rattle.packing.specs.Layouts.{written, code, holds};
-ghost use Rattle.packing.specs.Engine.{taken, takenTo};
+ghost use Rattle.packing.specs.Inner.{taken, takenTo};
 
 // The value or base - value, in 64 bits, so that no value is too large.
 fn written(l: Layout, value: i32) -> i64

@@ -9,7 +9,7 @@ ghost use Rattle.residues.specs.Remainder.{residue};
 ghost use Rattle.outcome.specs.Outcome.{Is};
 ghost use Rattle.packing.specs.Layouts.{allowed, size};
 ghost use Rattle.packing.specs.Parts.{ones};
-ghost use Rattle.packing.specs.Engine.{Readable, taken, remainder, unpackedTo};
+ghost use Rattle.packing.specs.Inner.{Readable, taken, remainder, unpackedTo};
 
 // What stands at a code: a remainder, or a code that is not allowed.
 pub enum Code {
@@ -48,7 +48,7 @@ fn value_of(l: Layout, q: u32, v: u32) -> Code
     Code::Good(v)
 }
 
-// "each unpacked coefficient is taken by let .. else, leaving at the first bad code with its place"
+// Each code is taken by let .. else, which leaves at the first bad one with its place (SPEC 6.5).
 pub fn unpack(l: Layout, q: u32, packed: &[u8], out: &mut [u32]) -> Unpacked
     requires { ⌜ Readable l q ⌝ }
     requires { ⌜ (length (now packed) ≡ size l (length (now out))) × (length (now out) ≤ 4096) ⌝ }

@@ -3,7 +3,7 @@ pub mod divide;
 
 ghost use mathlib.Core.Path.{_≡_};
 ghost use mathlib.Core.Bool.{cond};
-ghost use Prim.Native.Nat.{_^_, _/_, _<_, _≤_};
+ghost use Prim.Native.Nat.{_^_, _/_, _<_};
 ghost use lib.Dec.{leb};
 ghost use lib.IntN.{subℕ, natAbs};
 ghost use Rattle.residues.specs.Remainder.{residue, signed};

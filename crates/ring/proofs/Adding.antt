@@ -8,7 +8,7 @@ use native.Mathlib.Omega.{arith}
 use borrow.Author.Tests.{le-leb, lt-leb}
 use lib.ListN.{length, getD, set, length-set}
 use Rattle.residues.proofs.Order.{below-or}
-use Rattle.ring.specs.Engine.{Room, one, four, brought, Summed}
+use Rattle.ring.specs.Inner.{Room, one, four, brought, Summed}
 use Rattle.ring.proofs.Filling.{fill, keep}
 
 -- a product of two numbers below 2^25

@@ -6,7 +6,7 @@ use native.Mathlib.Omega.{arith}
 use native.Mathlib.Decide.{decLt, decLe, ℕ-discrete}
 use lib.IntN.{ℤ, pos, negsuc, negℤ, natAbs, _+ℤ_, _-ℤ_, _*ℤ_, +ℤ-idl, +ℤ-idr, *ℤ-zero}
 use Rattle.ring.specs.Ring.{sum, mono, fold, prod}
-use Rattle.ring.specs.Engine.{total}
+use Rattle.ring.specs.Inner.{total}
 use Rattle.residues.proofs.Ints.{abs-add, abs-mul, one-mul, mul-assoc, mul-add, mul-left-comm, neg-mul}
 use Rattle.ring.proofs.Sums.{mono-yes, mono-no, pick, zeros, cong, plus, scale}
 use Rattle.ring.proofs.Trinomial.{fold-low, fold-mid, fold-high}
@@ -39,14 +39,16 @@ mono-left i j m l = go (ℕ-discrete j (m - i))
 module _ (n : ℕ) (s : ℕ → ℤ) (η : ℕ) (small : (j : ℕ) → j < n → natAbs (s j) ≤ η) where
   spot : (i m : ℕ) → Dec (i ≤ m) → Dec (m - i < n) → natAbs (sum n (λ j. s j *ℤ mono (i + j) m)) ≤ η
   spot i m (yes l) (yes r) =
-      le-trans (le-of-eq (ap natAbs (cong n (λ j. s j *ℤ mono (i + j) m) (λ j. s j *ℤ mono j (m - i)) (λ j b. ap (λ x. s j *ℤ x) (mono-left i j m l)) ∙ pick n (m - i) s r))) (small (m - i) r)
+      le-trans (le-of-eq (ap natAbs (cong n (λ j. s j *ℤ mono (i + j) m) (λ j. s j *ℤ mono j (m - i))
+      (λ j b. ap (λ x. s j *ℤ x) (mono-left i j m l)) ∙ pick n (m - i) s r))) (small (m - i) r)
   spot i m (yes l) (no r) =
       le-trans (le-of-eq (ap natAbs (zeros n (λ j. s j *ℤ mono (i + j) m) (λ j b. ap (λ x. s j *ℤ x) (mono-no (i + j) m (λ d. r (omega arith))) ∙ *ℤ-zero (s j))))) (omega arith)
   spot i m (no l) r =
       le-trans (le-of-eq (ap natAbs (zeros n (λ j. s j *ℤ mono (i + j) m) (λ j b. ap (λ x. s j *ℤ x) (mono-no (i + j) m (λ d. l (omega arith))) ∙ *ℤ-zero (s j))))) (omega arith)
 
   -- a fold that is two terms, each with the sign u or v, gives at most two of s
-  pub two : (f : ℕ → ℤ) (i x y : ℕ) (u v : ℤ) → natAbs u ≤ 1 → natAbs v ≤ 1 → ((j : ℕ) → j < n → f j ≡ u *ℤ mono (i + j) x +ℤ v *ℤ mono (i + j) y) → natAbs (sum n (λ j. s j *ℤ f j)) ≤ 2 * η
+  pub two : (f : ℕ → ℤ) (i x y : ℕ) (u v : ℤ) → natAbs u ≤ 1 → natAbs v ≤ 1 → ((j : ℕ) → j < n → f j ≡ u *ℤ mono (i + j) x +ℤ v *ℤ mono (i + j) y) →
+      natAbs (sum n (λ j. s j *ℤ f j)) ≤ 2 * η
   two f i x y u v lu lv h =
       le-trans (le-of-eq (ap natAbs
       (cong n (λ j. s j *ℤ f j) (λ j. u *ℤ (s j *ℤ mono (i + j) x) +ℤ v *ℤ (s j *ℤ mono (i + j) y))
@@ -77,10 +79,12 @@ by-rows n w c s m τ k rows few =
 module _ (h e k : ℕ) (b : k < 2 * h) (u : e < 4 * h) where
   upper : h ≤ k → Dec (e < 2 * h) → Dec (e < 3 * h) → fold h e k ≡ pos 1 *ℤ mono e k +ℤ pos 1 *ℤ mono e (k + h)
   upper l (yes r) t =
-      fold-low h e k r ∙ sym (+ℤ-idr (mono e k)) ∙ sym (ap (λ x. pos 1 *ℤ mono e k +ℤ pos 1 *ℤ x) (mono-no e (k + h) (λ d. omega arith)) ∙ ap (λ x. x +ℤ pos 0) (one-mul (mono e k)))
+      fold-low h e k r ∙ sym (+ℤ-idr (mono e k)) ∙ sym (ap (λ x. pos 1 *ℤ mono e k +ℤ pos 1 *ℤ x) (mono-no e (k + h) (λ d. omega arith)) ∙
+      ap (λ x. x +ℤ pos 0) (one-mul (mono e k)))
   upper l (no r) (yes t) =
       fold-mid h e k (omega arith) t ∙ ap (λ x. mono (e - h) k -ℤ x) (mono-no (e - 2 * h) k (λ d. omega arith)) ∙ +ℤ-idr (mono (e - h) k)
-      ∙ mono-shift e h k (omega arith) ∙ sym (ap (λ x. pos 1 *ℤ x +ℤ pos 1 *ℤ mono e (k + h)) (mono-no e k (λ d. omega arith)) ∙ +ℤ-idl (pos 1 *ℤ mono e (k + h)) ∙ one-mul (mono e (k + h)))
+      ∙ mono-shift e h k (omega arith) ∙ sym (ap (λ x. pos 1 *ℤ x +ℤ pos 1 *ℤ mono e (k + h)) (mono-no e k (λ d. omega arith)) ∙
+      +ℤ-idl (pos 1 *ℤ mono e (k + h)) ∙ one-mul (mono e (k + h)))
   upper l (no r) (no t) =
       fold-high h e k (omega arith) ∙ ap negℤ (mono-no (e - 3 * h) k (λ d. omega arith))
       ∙ sym (ap (λ x. pos 1 *ℤ x +ℤ pos 1 *ℤ mono e (k + h)) (mono-no e k (λ d. omega arith)) ∙ ap (λ x. pos 0 +ℤ pos 1 *ℤ x) (mono-no e (k + h) (λ d. omega arith)))
@@ -89,7 +93,8 @@ module _ (h e k : ℕ) (b : k < 2 * h) (u : e < 4 * h) where
   lower : k < h → Dec (e < 2 * h) → Dec (e < 3 * h) → fold h e k ≡ mono e k +ℤ (negsuc 0 *ℤ mono e (k + 2 * h) +ℤ negsuc 0 *ℤ mono e (k + 3 * h))
   lower l (yes r) t =
       fold-low h e k r ∙ sym (+ℤ-idr (mono e k))
-      ∙ sym (ap (λ x. mono e k +ℤ (negsuc 0 *ℤ x +ℤ negsuc 0 *ℤ mono e (k + 3 * h))) (mono-no e (k + 2 * h) (λ d. omega arith)) ∙ ap (λ x. mono e k +ℤ (pos 0 +ℤ negsuc 0 *ℤ x)) (mono-no e (k + 3 * h) (λ d. omega arith)))
+      ∙ sym (ap (λ x. mono e k +ℤ (negsuc 0 *ℤ x +ℤ negsuc 0 *ℤ mono e (k + 3 * h))) (mono-no e (k + 2 * h) (λ d. omega arith)) ∙
+      ap (λ x. mono e k +ℤ (pos 0 +ℤ negsuc 0 *ℤ x)) (mono-no e (k + 3 * h) (λ d. omega arith)))
   lower l (no r) (yes t) =
       fold-mid h e k (omega arith) t ∙ ap (λ x. x -ℤ mono (e - 2 * h) k) (mono-no (e - h) k (λ d. omega arith))
       ∙ ap (λ x. pos 0 -ℤ x) (mono-shift e (2 * h) k (omega arith))

@@ -10,23 +10,19 @@ use lib.Dec.{leb}
 use lib.IntN.{pos, _*ℤ_}
 use lib.ListN.{length, getD, replicate, length-replicate, List·getD-eq-default}
 use Rattle.sets.specs.Set.{Set}
+use Rattle.sets.specs.declared.numbers.Ring.{Ring}
 use Rattle.sets.specs.Good.{Trinomial}
 use Rattle.residues.specs.Remainder.{residue}
 use Rattle.residues.proofs.Order.{below-or}
 use Rattle.residues.proofs.Remainders.{residue-lt, residue-again, residue-plus, residue-times, residue-pos}
-use Rattle.ring.specs.Ring.{sum, fold, prod}
-use Rattle.ring.specs.Engine.{whole, multiplied, Residues, total, meet, meetPadded, Padded, Unsummed, Unfolded, Foldable, Folded, FoldedAll}
+use Rattle.ring.specs.Ring.{sum, fold, prod, tab}
+use Rattle.ring.specs.Profile.{profileOf}
+use Rattle.ring.specs.Inner.{whole, multiplied, Residues, total, meet, meetPadded, Padded, Unsummed, Unfolded, Foldable, Folded, FoldedAll}
 use Rattle.ring.proofs.Sums.{cong}
-use Rattle.ring.proofs.Lists.{is-tab, tab-cong}
-use Rattle.ring.proofs.Algebra.{prod-comm}
+use Rattle.ring.proofs.Lists.{is-tab}
 use Rattle.ring.proofs.Reindex.{by-exponent, moved, pos-total, pos-meet}
 use Rattle.ring.proofs.Padding.{at-zeros}
 use Rattle.ring.proofs.Rowing.{total-cong, meet-padded}
-
--- the product of remainders commutes
-pub multiplied-turned : (p : Set) (a b : List ℕ) → multiplied p a b ≡ multiplied p b a
-unfolding multiplied
-multiplied-turned p a b = tab-cong (p .n) _ _ (λ k l. ap (residue (p .q)) (prod-comm (p .n) (fold (p .n / 2)) (whole a) (whole b) k))
 
 module _ (p : Set) (T : Trinomial p) where
   pub q-some : 0 < p .q
@@ -119,9 +115,9 @@ module _ (p : Set) (T : Trinomial p) where
         pos-total (p .n) (meet a b e) ∙
         cong (p .n) (λ i. pos (meet a b e i)) (λ i. whole a i *ℤ moved (whole b) i e) (λ i l. pos-meet (leb i e) (getD a i 0) (getD b (e - i) 0))
 
-    pub product-of : (c sums out : List ℕ) → Padded b c → Unfolded a c sums → FoldedAll p sums out → out ≡ multiplied p a b
-    unfolding multiplied
-    product-of c sums out P U F =
+    product-folded : (c sums out : List ℕ) → Padded b c → Unfolded a c sums → FoldedAll p sums out
+        → out ≡ tab (p .n) (λ k. residue (p .q) (prod (p .n) (fold h) (whole a) (whole b) k))
+    product-folded c sums out P U F =
         is-tab 0 out (p .n) (λ k. residue (p .q) (prod (p .n) (fold h) (whole a) (whole b) k)) (F .long)
         (λ k l.
         F .each k l ∙
@@ -137,3 +133,10 @@ module _ (p : Set) (T : Trinomial p) where
             (U .each e (omega (arith, U .wide, A .long)) ∙ ap (λ (n : ℕ). total n (meetPadded a c e)) (A .long) ∙
             total-cong (p .n) (meetPadded a c e) (meet a b e) (λ i l. meet-padded a b c e i P)) ∙
             meets e
+
+    -- the engine folds as the trinomial ring does, which the set's record names
+    pub product-of : (c sums out : List ℕ) → Padded b c → Unfolded a c sums → FoldedAll p sums out → out ≡ multiplied p a b
+    unfolding multiplied
+    product-of c sums out P U F =
+        product-folded c sums out P U F ∙
+        ap (λ (r : Ring). tab (p .n) (λ k. residue (p .q) (prod (p .n) (profileOf r (p .n) .wrap) (whole a) (whole b) k))) (sym (T .kind))

@@ -10,7 +10,7 @@ use lib.ListN.{length, getD, set, length-set}
 use lib.Seq.{getD-set-same, getD-set-other}
 use Rattle.residues.specs.Remainder.{residue}
 use Rattle.ring.specs.Ring.{mono, fold}
-use Rattle.ring.specs.Engine.{Foldable, Folded}
+use Rattle.ring.specs.Inner.{Foldable, Folded}
 use Rattle.ring.proofs.Sums.{mono-yes, mono-no}
 use Rattle.ring.proofs.Modulo.{gains, stays, loses}
 use Rattle.ring.proofs.Trinomial.{fold-low, fold-mid, fold-high}
@@ -37,12 +37,16 @@ module _ (h q : ℕ) (pq : 0 < q) (l : List ℕ) (e c : ℕ) (B : Foldable h q l
   pub one : (j v : ℕ) → j < 2 * h → v ≡ with h q l e c j → ((k : ℕ) → k < 2 * h → ((k ≡ j) → ⊥) → fold h e k ≡ pos 0) → Folded h q l e c (set l j v)
   one j v b hv z = record { long = length-set l j v ∙ B .long; each = λ k m. one-at j v k b hv (z k m) m (ℕ-discrete k j) }
 
-  two-at : (i u j v k : ℕ) → i < 2 * h → j < 2 * h → u ≡ with h q l e c i → v ≡ with h q l e c j → (((k ≡ i) → ⊥) → ((k ≡ j) → ⊥) → fold h e k ≡ pos 0) → k < 2 * h → Dec (k ≡ j) → Dec (k ≡ i) → getD (set (set l i u) j v) k 0 ≡ with h q l e c k
-  two-at i u j v k a b g hv z m (yes p) r = ap (λ (x : ℕ). getD (set (set l i u) j v) x 0) p ∙ getD-set-same (set l i u) j v 0 (omega (arith, B .long, length-set l i u)) ∙ hv ∙ ap (with h q l e c) (sym p)
-  two-at i u j v k a b g hv z m (no p) (yes r) = getD-set-other (set l i u) j k v 0 p ∙ ap (λ (x : ℕ). getD (set l i u) x 0) r ∙ getD-set-same l i u 0 (omega (arith, B .long)) ∙ g ∙ ap (with h q l e c) (sym r)
+  two-at : (i u j v k : ℕ) → i < 2 * h → j < 2 * h → u ≡ with h q l e c i → v ≡ with h q l e c j →
+      (((k ≡ i) → ⊥) → ((k ≡ j) → ⊥) → fold h e k ≡ pos 0) → k < 2 * h → Dec (k ≡ j) → Dec (k ≡ i) → getD (set (set l i u) j v) k 0 ≡ with h q l e c k
+  two-at i u j v k a b g hv z m (yes p) r = ap (λ (x : ℕ). getD (set (set l i u) j v) x 0) p ∙
+      getD-set-same (set l i u) j v 0 (omega (arith, B .long, length-set l i u)) ∙ hv ∙ ap (with h q l e c) (sym p)
+  two-at i u j v k a b g hv z m (no p) (yes r) = getD-set-other (set l i u) j k v 0 p ∙ ap (λ (x : ℕ). getD (set l i u) x 0) r ∙
+      getD-set-same l i u 0 (omega (arith, B .long)) ∙ g ∙ ap (with h q l e c) (sym r)
   two-at i u j v k a b g hv z m (no p) (no r) = getD-set-other (set l i u) j k v 0 p ∙ getD-set-other l i k u 0 r ∙ same k m (z r p)
 
-  pub two : (i u j v : ℕ) → i < 2 * h → j < 2 * h → u ≡ with h q l e c i → v ≡ with h q l e c j → ((k : ℕ) → k < 2 * h → ((k ≡ i) → ⊥) → ((k ≡ j) → ⊥) → fold h e k ≡ pos 0) → Folded h q l e c (set (set l i u) j v)
+  pub two : (i u j v : ℕ) → i < 2 * h → j < 2 * h → u ≡ with h q l e c i → v ≡ with h q l e c j →
+      ((k : ℕ) → k < 2 * h → ((k ≡ i) → ⊥) → ((k ≡ j) → ⊥) → fold h e k ≡ pos 0) → Folded h q l e c (set (set l i u) j v)
   two i u j v a b g hv z = record {
     long = length-set (set l i u) j v ∙ length-set l i u ∙ B .long;
     each = λ k m. two-at i u j v k a b g hv (z k m) m (ℕ-discrete k j) (ℕ-discrete k i);
@@ -67,10 +71,12 @@ div-high e h p l n = le-div-iff-mul-le {k = h} p .0 (lt-of (e / h) l n)
 -- the second range, at its two places and elsewhere
 module _ (h e : ℕ) (p : 0 < h) (a : 2 * h ≤ e) (b : e < 3 * h) where
   pub mid-plus : fold h e (e - h) ≡ pos 1
-  mid-plus = fold-mid h e (e - h) a b ∙ ap (λ x. x -ℤ mono (e - 2 * h) (e - h)) (mono-yes (e - h) (e - h) refl) ∙ ap (λ x. pos 1 -ℤ x) (mono-no (e - 2 * h) (e - h) (λ d. omega arith))
+  mid-plus = fold-mid h e (e - h) a b ∙ ap (λ x. x -ℤ mono (e - 2 * h) (e - h)) (mono-yes (e - h) (e - h) refl) ∙
+      ap (λ x. pos 1 -ℤ x) (mono-no (e - 2 * h) (e - h) (λ d. omega arith))
 
   pub mid-minus : fold h e (e - h - h) ≡ negsuc 0
-  mid-minus = fold-mid h e (e - h - h) a b ∙ ap (λ x. x -ℤ mono (e - 2 * h) (e - h - h)) (mono-no (e - h) (e - h - h) (λ d. omega arith)) ∙ ap (λ x. pos 0 -ℤ x) (mono-yes (e - 2 * h) (e - h - h) (omega arith))
+  mid-minus = fold-mid h e (e - h - h) a b ∙ ap (λ x. x -ℤ mono (e - 2 * h) (e - h - h)) (mono-no (e - h) (e - h - h) (λ d. omega arith)) ∙
+      ap (λ x. pos 0 -ℤ x) (mono-yes (e - 2 * h) (e - h - h) (omega arith))
 
   pub mid-none : (k : ℕ) → (k ≡ e - h → ⊥) → (k ≡ e - h - h → ⊥) → fold h e k ≡ pos 0
   mid-none k u r = fold-mid h e k a b ∙ ap (λ x. x -ℤ mono (e - 2 * h) k) (mono-no (e - h) k (λ d. u (sym d))) ∙ ap (λ x. pos 0 -ℤ x) (mono-no (e - 2 * h) k (λ d. r (omega arith)))

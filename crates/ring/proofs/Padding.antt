@@ -1,5 +1,5 @@
 -- A list between zeros.
-use mathlib.Core.Path.{_≡_, refl, sym, ap, _∙_}
+use mathlib.Core.Path.{_≡_, sym, ap, _∙_}
 use mathlib.Core.List.{List}
 use mathlib.Core.Logic.{⊎-elim}
 use Prim.Native.Nat.{ℕ, _+_, _-_, _≤_, _<_}
@@ -8,7 +8,7 @@ use native.Mathlib.Decide.{ℕ-discrete}
 use lib.ListN.{length, getD, set, length-set, replicate, length-replicate, getD-replicate, List·getD-eq-default}
 use lib.Seq.{getD-set-same, getD-set-other}
 use Rattle.residues.proofs.Order.{below-or}
-use Rattle.ring.specs.Engine.{Padded}
+use Rattle.ring.specs.Inner.{Padded}
 use Rattle.ring.proofs.Filling.{keep}
 
 pub at-zeros : (n k : ℕ) → getD {A = ℕ} (replicate n 0) k 0 ≡ 0

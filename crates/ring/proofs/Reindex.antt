@@ -9,7 +9,7 @@ use borrow.Author.Tests.{le-leb, lt-leb}
 use lib.Dec.{leb}
 use lib.IntN.{ℤ, pos, _+ℤ_, _*ℤ_, +ℤ-idr, zero-*ℤ}
 use Rattle.ring.specs.Ring.{sum, prod}
-use Rattle.ring.specs.Engine.{total}
+use Rattle.ring.specs.Inner.{total}
 use Rattle.residues.proofs.Ints.{mul-assoc}
 use Rattle.ring.proofs.Sums.{cong, zeros, scale, scale-r, swap}
 

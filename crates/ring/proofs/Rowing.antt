@@ -12,7 +12,7 @@ use borrow.Author.Tests.{le-leb, lt-leb}
 use lib.Dec.{leb}
 use lib.ListN.{length, getD, List·getD-eq-default}
 use Rattle.residues.proofs.Order.{below-or}
-use Rattle.ring.specs.Engine.{total, meet, meetPadded, one, four, brought, Padded, Room, Summed, Passed, Unsummed, Unfolded}
+use Rattle.ring.specs.Inner.{total, meet, meetPadded, one, four, brought, Padded, Room, Summed, Passed, Unsummed, Unfolded}
 use Rattle.ring.proofs.Adding.{small}
 
 -- ---- sums of natural numbers
@@ -171,7 +171,8 @@ module _ (a c sums : List ℕ) (U : Unsummed a c sums) where
       wide = M .long ∙ S .wide;
       each = λ e l.
           M .each e (omega (arith, S .wide)) ∙ ap (λ (x : ℕ). x + meetPadded a c e i) (S .each e l) ∙
-          sym (gathered e ∙ (λ j. total i (meetPadded a c e) + (meetPadded a c e i + nothing e i1 z1 j + nothing e i2 z2 j + nothing e i3 z3 j)) ∙ plain (total i (meetPadded a c e)) (meetPadded a c e i));
+          sym (gathered e ∙ (λ j. total i (meetPadded a c e) + (meetPadded a c e i + nothing e i1 z1 j + nothing e i2 z2 j + nothing e i3 z3 j)) ∙
+          plain (total i (meetPadded a c e)) (meetPadded a c e i));
     }
       where
         plain : (x y : ℕ) → x + (y + 0 + 0 + 0) ≡ x + y

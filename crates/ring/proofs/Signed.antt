@@ -1,7 +1,7 @@
 -- The product of signed numbers by way of their remainders.
 use mathlib.Core.Path.{_≡_, refl, sym, ap, _∙_}
 use mathlib.Core.List.{List, map}
-use Prim.Native.Nat.{ℕ, _/_, _<_}
+use Prim.Native.Nat.{ℕ, _<_}
 use native.Mathlib.Omega.{arith}
 use lib.IntN.{ℤ, pos}
 use lib.ListN.{length, getD, length-map, List·getD-map, List·getD-eq-default}
@@ -11,12 +11,18 @@ use Rattle.sets.specs.Good.{Trinomial}
 use Rattle.residues.specs.Remainder.{residue}
 use Rattle.residues.proofs.Order.{below-or}
 use Rattle.residues.proofs.Remainders.{residue-lt, residue-again}
-use Rattle.ring.specs.Ring.{fold, prod, at, product}
-use Rattle.ring.specs.Profile.{trinomial, mul}
-use Rattle.ring.specs.Engine.{whole, multiplied, Residues}
+use Rattle.ring.specs.Ring.{prod, at, product}
+use Rattle.ring.specs.Profile.{profile, mul}
+use Rattle.ring.specs.Inner.{whole, multiplied, Residues}
 use Rattle.ring.proofs.Lists.{map-tab, tab-cong, length-tab, at-tab, past-tab}
+use Rattle.ring.proofs.Algebra.{prod-comm}
 use Rattle.ring.proofs.Modulo.{residue-prod}
 use Rattle.ring.proofs.Engine.{q-some}
+
+-- products commute
+pub mul-turned : (p : Set) (a b : List ℤ) → mul p a b ≡ mul p b a
+unfolding product
+mul-turned p a b = tab-cong (p .n) _ _ (λ k l. ap (λ (z : ℤ). pos (residue (p .q) z)) (prod-comm (p .n) (profile p .wrap) (at a) (at b) k))
 
 module _ (p : Set) (T : Trinomial p) where
   -- the remainders of a list of signed numbers
@@ -43,15 +49,15 @@ module _ (p : Set) (T : Trinomial p) where
   unfolding multiplied
   residues-multiplied a b = record {
     long = length-tab (p .n) _;
-    each = λ k. ⊎-elim (λ l. rw (at-tab 0 (p .n) (λ k. residue (p .q) (prod (p .n) (fold (p .n / 2)) (whole a) (whole b) k)) k l) (residue-lt (p .q) (q-some p T) _))
-        (λ l. rw (past-tab 0 (p .n) (λ k. residue (p .q) (prod (p .n) (fold (p .n / 2)) (whole a) (whole b) k)) k l) (q-some p T)) (below-or k (p .n));
+    each = λ k. ⊎-elim (λ l. rw (at-tab 0 (p .n) (λ k. residue (p .q) (prod (p .n) (profile p .wrap) (whole a) (whole b) k)) k l) (residue-lt (p .q) (q-some p T) _))
+        (λ l. rw (past-tab 0 (p .n) (λ k. residue (p .q) (prod (p .n) (profile p .wrap) (whole a) (whole b) k)) k l) (q-some p T)) (below-or k (p .n));
   }
 
   -- coefficient by coefficient, the product of the remainders is that of the numbers
   same-product : (a b : List ℤ) → length a ≡ p .n → length b ≡ p .n → (k : ℕ)
-      → residue (p .q) (prod (p .n) (fold (p .n / 2)) (whole (reduced a)) (whole (reduced b)) k) ≡ residue (p .q) (prod (p .n) (fold (p .n / 2)) (at a) (at b) k)
+      → residue (p .q) (prod (p .n) (profile p .wrap) (whole (reduced a)) (whole (reduced b)) k) ≡ residue (p .q) (prod (p .n) (profile p .wrap) (at a) (at b) k)
   same-product a b e f k =
-      residue-prod (p .q) (q-some p T) (p .n) (fold (p .n / 2)) (whole (reduced a)) (at a) (whole (reduced b)) (at b) k
+      residue-prod (p .q) (q-some p T) (p .n) (profile p .wrap) (whole (reduced a)) (at a) (whole (reduced b)) (at b) k
       (λ i m. same a i (omega (arith, e))) (λ i m. same b i (omega (arith, f)))
     where
       same : (a : List ℤ) (i : ℕ) → i < length a → residue (p .q) (whole (reduced a) i) ≡ residue (p .q) (at a i)
@@ -59,20 +65,20 @@ module _ (p : Set) (T : Trinomial p) where
 
   module _ (a b : List ℤ) (e : length a ≡ p .n) (f : length b ≡ p .n) where
     abbrev ours : ℕ → ℕ
-    ours k = residue (p .q) (prod (p .n) (fold (p .n / 2)) (whole (reduced a)) (whole (reduced b)) k)
+    ours k = residue (p .q) (prod (p .n) (profile p .wrap) (whole (reduced a)) (whole (reduced b)) k)
 
     abbrev theirs : ℕ → ℕ
-    theirs k = residue (p .q) (prod (p .n) (fold (p .n / 2)) (at a) (at b) k)
+    theirs k = residue (p .q) (prod (p .n) (profile p .wrap) (at a) (at b) k)
 
     -- the product of remainders, read as whole numbers, is the product
-    pub product-reduced : map pos (multiplied p (reduced a) (reduced b)) ≡ mul (trinomial p) a b
+    pub product-reduced : map pos (multiplied p (reduced a) (reduced b)) ≡ mul p a b
     unfolding multiplied product
     product-reduced = map-tab pos (p .n) ours ∙ tab-cong (p .n) (λ k. pos (ours k)) (λ k. pos (theirs k)) (λ k l. ap pos (same-product a b e f k))
 
     -- and so it holds the product's remainders
-    pub product-residues : multiplied p (reduced a) (reduced b) ≡ reduced (mul (trinomial p) a b)
+    pub product-residues : multiplied p (reduced a) (reduced b) ≡ reduced (mul p a b)
     unfolding multiplied product
     product-residues =
         tab-cong (p .n) ours (λ k. residue (p .q) (pos (theirs k)))
-        (λ k l. same-product a b e f k ∙ sym (residue-again (p .q) (q-some p T) (prod (p .n) (fold (p .n / 2)) (at a) (at b) k))) ∙
+        (λ k l. same-product a b e f k ∙ sym (residue-again (p .q) (q-some p T) (prod (p .n) (profile p .wrap) (at a) (at b) k))) ∙
         sym (map-tab (residue (p .q)) (p .n) (λ k. pos (theirs k)))

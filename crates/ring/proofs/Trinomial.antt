@@ -41,7 +41,8 @@ module _ (h : ℕ) (p : 0 < h) where
       ∙ sym (ap (λ x. x *ℤ fold h (2 * h) zero) (fold-low h e (2 * h - 1) (omega arith) ∙ mono-no e (2 * h - 1) (λ d. omega arith)) ∙ zero-*ℤ (fold h (2 * h) zero))
   case-low e (suc k) l m =
       fold-low h (suc e) (suc k) l ∙ mono-suc e k ∙ sym (fold-low h e k (omega arith)) ∙ sym (+ℤ-idr (fold h e k))
-      ∙ sym (ap (λ x. fold h e k +ℤ x) (ap (λ x. x *ℤ fold h (2 * h) (suc k)) (fold-low h e (2 * h - 1) (omega arith) ∙ mono-no e (2 * h - 1) (λ d. omega arith)) ∙ zero-*ℤ (fold h (2 * h) (suc k))))
+      ∙ sym (ap (λ x. fold h e k +ℤ x) (ap (λ x. x *ℤ fold h (2 * h) (suc k)) (fold-low h e (2 * h - 1) (omega arith) ∙
+      mono-no e (2 * h - 1) (λ d. omega arith)) ∙ zero-*ℤ (fold h (2 * h) (suc k))))
 
   case-first : (e k : ℕ) → suc e ≡ 2 * h → k < 2 * h → fold h (suc e) k ≡ step (2 * h) (fold h (2 * h)) (fold h e) k
   case-first e zero l m =

@@ -1,5 +1,5 @@
--- The ring's product, and what its calls answer.
+-- The ring's product, and what its call answers. Inner is for functions inside.
 pub mod Ring
 pub mod Profile
-pub mod Engine
 pub mod Calls
+pub mod Inner

@@ -1,15 +1,15 @@
-// The product in a trinomial ring, X^n = X^(n/2) - 1: the plain engine, over remainders, for any set.
-pub mod level1;
+// The product in a trinomial ring (SPEC 2.2, 2.3): the plain engine, over remainders, for any set.
+pub mod set1;
 
 use residues::divide::modulo;
 use residues::divide::wrap;
 use sets::limits;
 use sets::numbers::Numbers;
 ghost use mathlib.Core.Path.{_≡_};
-ghost use Prim.Native.Nat.{ℕ, _+_, _-_, _*_, _^_, _/_, _%_, _<_, _≤_};
+ghost use Prim.Native.Nat.{_+_, _-_, _*_, _^_, _/_, _%_, _<_, _≤_};
 ghost use lib.ListN.{length, getD, set, replicate};
 ghost use Rattle.sets.specs.Good.{Trinomial};
-ghost use Rattle.ring.specs.Engine.{multiplied, Residues, Padded, Room, one, four, Summed, Passed, Unsummed, Unfolded, Foldable, Folded, FoldedAll};
+ghost use Rattle.ring.specs.Inner.{multiplied, Residues, Padded, Room, one, four, Summed, Passed, Unsummed, Unfolded, Foldable, Folded, FoldedAll};
 
 // Coefficient i, and 0 past the end.
 fn coefficient(a: &[u32], i: usize) -> u32
@@ -164,7 +164,7 @@ fn range_of(half: usize, e: usize) -> usize
     if e < 3 * half { 2 } else { 3 }
 }
 
-// Adds c X^e. "An exponent falls in one of three ranges": it stays, it folds to two, or it is negated. The ranges go by halves of n.
+// Adds c X^e (SPEC 2.2): in the first range the exponent stays, in the second it folds to two, in the third it is negated. The ranges go by halves of n.
 fn fold_in(out: &mut [u32], half: usize, q: u32, e: usize, c: u32)
     requires { ⌜ Foldable half q (now out) e c ⌝ }
     ensures { λ _. ⌜ Folded half q (now (out .entry)) e c (now (out .exit)) ⌝ }

@@ -53,7 +53,8 @@ module _ (p : Set) (good : Good p) where
   wide = let s = good .some in omega arith
 
   -- a bucket below the last: u = x + γ2 does not wrap
-  inner : (x k : ℕ) (z : ℤ) → rest (alpha p) x ≡ k * alpha p → centred (alpha p) (pos x) ≡ z → k < steps p → k * alpha p < x + p .gamma2 → x + p .gamma2 ≤ k * alpha p + alpha p → z ≡ subℕ (x + p .gamma2) (p .gamma2 + k * alpha p) → Closed p x
+  inner : (x k : ℕ) (z : ℤ) → rest (alpha p) x ≡ k * alpha p → centred (alpha p) (pos x) ≡ z → k < steps p → k * alpha p < x + p .gamma2 →
+      x + p .gamma2 ≤ k * alpha p + alpha p → z ≡ subℕ (x + p .gamma2) (p .gamma2 + k * alpha p) → Closed p x
   unfolding parts
   inner x k z er ez hk lo hi e =
       let w = wide in
@@ -67,7 +68,8 @@ module _ (p : Set) (good : Good p) where
       }
 
   -- the last: u = x + γ2 - q
-  outer : (x u : ℕ) (z : ℤ) → rest (alpha p) x ≡ steps p * alpha p → centred (alpha p) (pos x) ≡ z → x + p .gamma2 ≡ u + p .q → u < p .gamma2 → z -ℤ pos 1 ≡ subℕ u (p .gamma2) → Closed p x
+  outer : (x u : ℕ) (z : ℤ) → rest (alpha p) x ≡ steps p * alpha p → centred (alpha p) (pos x) ≡ z → x + p .gamma2 ≡ u + p .q → u < p .gamma2 →
+      z -ℤ pos 1 ≡ subℕ u (p .gamma2) → Closed p x
   unfolding parts
   outer x u z er ez eu hu e =
       let l = mul-le-mul-right (alpha p) (good .many) in

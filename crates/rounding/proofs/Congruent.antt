@@ -1,4 +1,4 @@
--- The rules read their arguments mod q; the paper's lemmas through the norm, for remainders.
+-- The rules read their arguments mod q; the laws of hints through the norm, for remainders.
 use mathlib.Core.Path.{_≡_, refl, sym, ap, _∙_}
 use mathlib.Core.Bool.{cond}
 use Prim.Native.Nat.{ℕ, _+_, _-_, _*_, _/_, _^_, _≤_, _<_}
@@ -47,7 +47,7 @@ module _ (p : Set) (good : Good p) where
   centre : (z : ℤ) → residue (p .q) z ≡ residue (p .q) (centred (p .q) z)
   centre z = sym (residue-centred (p .q) q-pos z)
 
-  -- 002, Lemma 1, part 1, for a z of norm at most α/2 = γ2
+  -- SPEC 12.4, for a z of norm at most γ2
   pub hint-recovers-norm : (z r : ℤ) → magnitude (p .q) z ≤ p .gamma2 → useHint p (makeHint p z r) r ≡ highBits p (r +ℤ z)
   hint-recovers-norm z r h =
       let w = centred (p .q) z in
@@ -55,7 +55,7 @@ module _ (p : Set) (good : Good p) where
       hint-recovers p good w r h ∙
       high-cong (r +ℤ w) (r +ℤ z) (residue-plus (p .q) q-pos r r w z refl (sym (centre z)))
 
-  -- 002, Lemma 2, for an s of norm at most b
+  -- SPEC 12.5, for an s of norm at most b
   pub high-kept-norm : (b : ℕ) (s r : ℤ) → magnitude (p .q) s ≤ b → natAbs (lowBits p r) < p .gamma2 - b → highBits p r ≡ highBits p (r +ℤ s)
   high-kept-norm b s r hs hl =
       let t = centred (p .q) s in

@@ -2,12 +2,12 @@
 use mathlib.Core.Path.{_≡_, refl, sym, ap, ap₂, _∙_}
 use Prim.Native.Nat.{ℕ}
 use Rattle.outcome.proofs.One.{One}
-use Rattle.sets.specs.declared.refusal.Answer.{Answer}
-use Rattle.sets.specs.declared.refusal.Answer.the-variants.{Done, Refused as RefusedAnswer}
-use Rattle.sets.specs.Refusals.{reportOf}
-use Rattle.sets.proofs.Reports.{report-one}
-use Rattle.rounding.specs.declared.level1.Used.{Used}
-use Rattle.rounding.specs.declared.level1.Used.the-variants.{High, Refused}
+use Rattle.answers.specs.declared.Answer.{Answer}
+use Rattle.answers.specs.declared.Answer.the-variants.{Done, Refused as RefusedAnswer}
+use Rattle.answers.specs.Refusals.{reportOf}
+use Rattle.answers.proofs.Reports.{report-one}
+use Rattle.rounding.specs.declared.set1.Used.{Used}
+use Rattle.rounding.specs.declared.set1.Used.the-variants.{High, Refused}
 use Rattle.rounding.specs.Used.{usedReport}
 use Rattle.rounding.proofs.split_of.Reads as split-of
 use Rattle.rounding.proofs.split_of.Kinds as split-of-kinds
@@ -21,24 +21,24 @@ use Rattle.rounding.proofs.used_of.Reads as used-of
 use Rattle.rounding.proofs.used_of.Kinds as used-of-kinds
 use Rattle.rounding.proofs.power_of.Reads as power-of
 use Rattle.rounding.proofs.power_of.Kinds as power-of-kinds
-use Rattle.rounding.proofs.level1.plain_remainder.Reads as plain-remainder
-use Rattle.rounding.proofs.level1.plain_remainder.Kinds as plain-remainder-kinds
-use Rattle.rounding.proofs.level1.centred_remainder.Reads as centred-remainder
-use Rattle.rounding.proofs.level1.centred_remainder.Kinds as centred-remainder-kinds
-use Rattle.rounding.proofs.level1.decompose.Reads as decompose
-use Rattle.rounding.proofs.level1.decompose.Kinds as decompose-kinds
-use Rattle.rounding.proofs.level1.high_bits.Reads as high-bits
-use Rattle.rounding.proofs.level1.high_bits.Kinds as high-bits-kinds
-use Rattle.rounding.proofs.level1.low_bits.Reads as low-bits
-use Rattle.rounding.proofs.level1.low_bits.Kinds as low-bits-kinds
-use Rattle.rounding.proofs.level1.make_hint.Reads as make-hint
-use Rattle.rounding.proofs.level1.make_hint.Kinds as make-hint-kinds
-use Rattle.rounding.proofs.level1.use_hint.Reads as use-hint
-use Rattle.rounding.proofs.level1.use_hint.Kinds as use-hint-kinds
-use Rattle.rounding.proofs.level1.power2round.Reads as power2round
-use Rattle.rounding.proofs.level1.power2round.Kinds as power2round-kinds
-use Rattle.rounding.proofs.level1.norm.Reads as norm
-use Rattle.rounding.proofs.level1.norm.Kinds as norm-kinds
+use Rattle.rounding.proofs.set1.plain_remainder.Reads as plain-remainder
+use Rattle.rounding.proofs.set1.plain_remainder.Kinds as plain-remainder-kinds
+use Rattle.rounding.proofs.set1.centred_remainder.Reads as centred-remainder
+use Rattle.rounding.proofs.set1.centred_remainder.Kinds as centred-remainder-kinds
+use Rattle.rounding.proofs.set1.decompose.Reads as decompose
+use Rattle.rounding.proofs.set1.decompose.Kinds as decompose-kinds
+use Rattle.rounding.proofs.set1.high_bits.Reads as high-bits
+use Rattle.rounding.proofs.set1.high_bits.Kinds as high-bits-kinds
+use Rattle.rounding.proofs.set1.low_bits.Reads as low-bits
+use Rattle.rounding.proofs.set1.low_bits.Kinds as low-bits-kinds
+use Rattle.rounding.proofs.set1.make_hint.Reads as make-hint
+use Rattle.rounding.proofs.set1.make_hint.Kinds as make-hint-kinds
+use Rattle.rounding.proofs.set1.use_hint.Reads as use-hint
+use Rattle.rounding.proofs.set1.use_hint.Kinds as use-hint-kinds
+use Rattle.rounding.proofs.set1.power2round.Reads as power2round
+use Rattle.rounding.proofs.set1.power2round.Kinds as power2round-kinds
+use Rattle.rounding.proofs.set1.norm.Reads as norm
+use Rattle.rounding.proofs.set1.norm.Kinds as norm-kinds
 
 -- an answer of UseHint is known by its report and its high bits
 abbrev answerOf : Used → Answer
@@ -82,7 +82,7 @@ used-of-one κs a x y s t p q = (p ∙ sym q, refl)
 pub power-of-one : One 0 power-of-kinds.ps power-of-kinds.r power-of.Post (λ κs s. tt {0})
 power-of-one κs a x y s t p q = (p ∙ sym q, refl)
 
--- trinomial level 1
+-- set 1
 pub plain-remainder-one : One 0 plain-remainder-kinds.ps plain-remainder-kinds.r plain-remainder.Post (λ κs s. tt {0})
 plain-remainder-one κs a x y s t p q = (p ∙ sym q, refl)
 

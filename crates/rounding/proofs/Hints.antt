@@ -1,4 +1,4 @@
--- The paper's two lemmas on hints, for every set that meets the conditions. The wrap-around step is covered: places lie on a circle of q numbers.
+-- The laws of hints (SPEC 12.4 to 12.6), for every set that meets the conditions. The wrap-around step is covered: places lie on a circle of q numbers.
 use mathlib.Core.Path.{_≡_, sym, ap, _∙_}
 use mathlib.Core.Bool.{Bool, true, false, cond}
 use mathlib.Core.Logic.{_⊎_, inl, inr, ⊎-elim}
@@ -148,7 +148,7 @@ module _ (p : Set) (good : Good p) where
   unfolding moved
   moved-down r h = simp (low-at r, sub-pos, le-ltb _ _ h, high-at r)
 
-  -- 002, Lemma 1, part 1: a hint made for a move of at most α/2 gives the high bits after the move
+  -- SPEC 12.4: a hint made for a move of at most γ2 gives the high bits after the move
   pub hint-recovers : (z r : ℤ) → natAbs z ≤ p .gamma2 → useHint p (makeHint p z r) r ≡ highBits p (r +ℤ z)
   unfolding useHint makeHint
   hint-recovers z r hz =
@@ -159,14 +159,21 @@ module _ (p : Set) (good : Good p) where
       let w = near r z (p .gamma2) hz (omega arith) in
       by (ℕ-discrete (stepOf p u) (stepOf p v)) (below-or (p .gamma2 + stepOf p u * alpha p) u) a b w
     where
-      by : Dec (stepOf p (place r) ≡ stepOf p (place (r +ℤ z))) → ((p .gamma2 + stepOf p (place r) * alpha p < place r) ⊎ (place r ≤ p .gamma2 + stepOf p (place r) * alpha p)) → In (place r) (stepOf p (place r)) → In (place (r +ℤ z)) (stepOf p (place (r +ℤ z))) → Near (p .q) (p .gamma2) (place r) (place (r +ℤ z)) → cond (eqb (cond (eqb (highBits p r) (highBits p (r +ℤ z))) 0 1) 0) (highBits p r) (moved p (decompose p r)) ≡ highBits p (r +ℤ z)
+      by :
+          Dec (stepOf p (place r) ≡ stepOf p (place (r +ℤ z))) →
+          ((p .gamma2 + stepOf p (place r) * alpha p < place r) ⊎ (place r ≤ p .gamma2 + stepOf p (place r) * alpha p)) →
+          In (place r) (stepOf p (place r)) →
+          In (place (r +ℤ z)) (stepOf p (place (r +ℤ z))) →
+          Near (p .q) (p .gamma2) (place r) (place (r +ℤ z)) →
+          cond (eqb (cond (eqb (highBits p r) (highBits p (r +ℤ z))) 0 1) 0) (highBits p r) (moved p (decompose p r)) ≡
+          highBits p (r +ℤ z)
       by (yes e) s a b w = simp (high-at r, high-at (r +ℤ z), eq-eqb _ _ e) e
       by (no e) (inl s) a b w =
           simp (high-at r, high-at (r +ℤ z), ne-eqb _ _ e, moved-up r s) (up _ _ _ _ (place-lt r) (place-lt (r +ℤ z)) a b w s e)
       by (no e) (inr s) a b w =
           simp (high-at r, high-at (r +ℤ z), ne-eqb _ _ e, moved-down r s) (down _ _ _ _ (place-lt r) (place-lt (r +ℤ z)) a b w s e)
 
-  -- 002, Lemma 2: a move of at most b keeps the high bits where the low bits are below α/2 - b
+  -- SPEC 12.5: a move of at most b keeps the high bits where the low bits are below γ2 - b
   pub high-kept : (b : ℕ) (s r : ℤ) → natAbs s ≤ b → natAbs (lowBits p r) < p .gamma2 - b → highBits p r ≡ highBits p (r +ℤ s)
   high-kept b s r hs hl =
       let u = place r in
@@ -178,7 +185,7 @@ module _ (p : Set) (good : Good p) where
       (near r s b hs (omega arith)) (omega arith) (omega arith) ∙
       sym (high-at (r +ℤ s))
 
-  -- 002, Lemma 1, part 3: a hint is known by its use
+  -- SPEC 12.6: a hint is known by its use
   turned : (h : ℕ) → h < steps p → ((h + 1) % steps p ≡ h → ⊥) × ((h + (steps p - 1)) % steps p ≡ h → ⊥)
   turned h l =
       let m = good .many in (

@@ -1,11 +1,11 @@
-// The rounding and hint rules (002, Algorithms 2 to 7), over remainders, for any set.
-pub mod level1;
+// The rounding and hint rules (SPEC 3), over remainders, for any set.
+pub mod set1;
 
 use residues::divide::quotient;
 use residues::divide::wrap;
 use sets::numbers::Numbers;
 ghost use mathlib.Core.Path.{_≡_};
-ghost use Prim.Native.Nat.{ℕ, _<_, _≤_};
+ghost use Prim.Native.Nat.{_<_};
 ghost use lib.IntN.{pos, natAbs};
 ghost use Rattle.sets.specs.Good.{Good};
 ghost use Rattle.rounding.specs.Rounding.{parts, highBits, lowBits, makeHint, useHint, power2Round};
@@ -15,7 +15,7 @@ pub struct Split {
     pub low: i32,
 }
 
-// Decompose of a remainder. With u = x + γ2 mod q the high bits are (u - 1)/α, and no case is left for the top half step.
+// SPEC 3.4: Decompose of a remainder. With u = x + γ2 mod q the high bits are (u - 1)/α, and no case is left for the top half step.
 pub fn split_of(p: Numbers, x: u32) -> Split
     requires { ⌜ Good p ⌝ }
     requires { ⌜ x < p .q ⌝ }
@@ -36,7 +36,7 @@ pub fn split_of(p: Numbers, x: u32) -> Split
     }
 }
 
-// The high bits alone.
+// SPEC 3.5: the high bits alone.
 pub fn high_of(p: Numbers, x: u32) -> u32
     requires { ⌜ Good p ⌝ }
     requires { ⌜ x < p .q ⌝ }
@@ -47,7 +47,7 @@ pub fn high_of(p: Numbers, x: u32) -> u32
     if u == 0 { 0 } else { quotient(2 * g, u - 1) }
 }
 
-// The magnitude of the low bits.
+// SPEC 3.5: the magnitude of the low bits.
 pub fn low_of(p: Numbers, x: u32) -> u32
     requires { ⌜ Good p ⌝ }
     requires { ⌜ x < p .q ⌝ }
@@ -62,7 +62,7 @@ pub fn low_of(p: Numbers, x: u32) -> u32
     if middle <= u { u - middle } else { middle - u }
 }
 
-// MakeHint of two remainders.
+// SPEC 3.6: MakeHint of two remainders.
 pub fn hint_of(p: Numbers, z: u32, r: u32) -> u32
     requires { ⌜ Good p ⌝ }
     requires { ⌜ (z < p .q) × (r < p .q) ⌝ }
@@ -76,10 +76,10 @@ pub fn hint_of(p: Numbers, z: u32, r: u32) -> u32
     }
 }
 
-// UseHint of a hint that is 0 or 1 and a remainder.
+// SPEC 3.7: UseHint of a hint and a remainder: every hint but 0 is taken as 1.
 pub fn used_of(p: Numbers, h: u32, r: u32) -> u32
     requires { ⌜ Good p ⌝ }
-    requires { ⌜ (h ≤ 1) × (r < p .q) ⌝ }
+    requires { ⌜ r < p .q ⌝ }
     ensures { λ v. ⌜ v ≡ useHint p h (pos r) ⌝ }
 {
     let s = split_of(p, r);
@@ -95,7 +95,7 @@ pub fn used_of(p: Numbers, h: u32, r: u32) -> u32
     }
 }
 
-// Power2Round of a remainder: r1 is (x + 2^(d-1) - 1)/2^d.
+// SPEC 3.8: Power2Round of a remainder: r1 is (x + 2^(d-1) - 1)/2^d.
 pub fn power_of(p: Numbers, x: u32) -> Split
     requires { ⌜ Good p ⌝ }
     requires { ⌜ x < p .q ⌝ }

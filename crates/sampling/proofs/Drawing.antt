@@ -9,11 +9,10 @@ use borrow.Author.Tests.{leb-true, ltb-true}
 use lib.ListN.{length, getD, length-map, List·getD-map, List·getD-eq-default}
 use lib.IntN.{ℤ, pos, natAbs, _-ℤ_}
 use Rattle.sets.specs.Set.{Set}
-use Rattle.sets.specs.Result.{done}
+use Rattle.answers.specs.Result.{done}
 use Rattle.residues.proofs.Order.{below-or}
 use Rattle.residues.proofs.Differences.{pos-sub, abs-sub-le}
 use Rattle.sampling.specs.Samplers.{Drawn, dry, drew, also, drawn, first, sampleA, sampleS}
-use Rattle.sampling.specs.Streams.{Hash, expandA, expandS}
 
 -- a dry stream gives nothing
 pub not-dry : {A : Type 0} (zs : List ℤ) → dry ≡ drew zs → A
@@ -93,12 +92,3 @@ module _ (p : Set) where
     where
       within : (v : ℕ) → v ≤ 2 * p .eta → natAbs (pos (p .eta) -ℤ pos v) ≤ p .eta
       within v l = rw (pos-sub (p .eta) v) (abs-sub-le (p .eta) v (p .eta) (omega arith) (omega arith))
-
-  -- the same over the hash
-  pub expanded-a : (H : Hash) (ζ : List ℕ) (a : List ℤ) → expandA p H ζ ≡ done a → Each (Plain (p .q)) (p .n) a
-  unfolding expandA
-  expanded-a H ζ a e = drawn-a _ a (drawn-done _ a e)
-
-  pub expanded-s : (H : Hash) (ξ : List ℕ) (s : List ℤ) → expandS p H ξ ≡ done s → Each (Small (p .eta)) (p .n) s
-  unfolding expandS
-  expanded-s H ξ s e = drawn-s _ s (drawn-done _ s e)

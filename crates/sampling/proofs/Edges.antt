@@ -1,4 +1,4 @@
--- The definitions at the edges, and run at real size: the challenge of trinomial level 1 from SHAKE256's stream on 1, 2, 3, as an independent
+-- The definitions at the edges, and run at real size: the challenge of set 1 from SHAKE256's stream on 1, 2, 3, as an independent
 -- program gives it.
 use mathlib.Core.Path.{_≡_, refl, sym, ap, _∙_}
 use mathlib.Core.Bool.{Bool}
@@ -15,14 +15,14 @@ use lib.Seq.{ext-getD, take-append-le, drop-append-le}
 use Rattle.digits.specs.Digits.{value, digits, codes}
 use Rattle.digits.proofs.Codes.{length-codes}
 use Rattle.residues.proofs.Order.{below-or}
-use Rattle.sets.specs.Set.{Set, tri1}
+use Rattle.sets.specs.Set.{Set, set1}
 use Rattle.sets.specs.Good.{Good}
 use Rattle.sampling.specs.Samplers.{Drawn, drew, dry, groups, first, placed, sampleA, sampleS, challenge}
-use Rattle.sampling.specs.Engine.{sDraws, isS, meansS}
+use Rattle.sampling.specs.Inner.{sDraws, isS, meansS}
 use Rattle.sampling.proofs.Bounds.{some-bytes}
 use Rattle.sampling.proofs.Groups.{group-at, groups-none, fields-none}
 
--- "There an empty stream is dry"
+-- SPEC 5.6: an empty stream is dry
 first-none : (ok : ℕ → Bool) (means : ℕ → ℤ) (n : ℕ) → 0 < n → first ok means [] n ≡ dry
 unfolding first
 first-none ok means zero l = absurd (omega arith)
@@ -38,10 +38,11 @@ module _ (p : Set) (good : Good p) where
   pub empty-s : sampleS p [] ≡ dry
   unfolding sampleS
   empty-s =
-      ap (λ (xs : List ℕ). first (λ v. leb v (2 * p .eta)) (λ v. pos (p .eta) -ℤ pos v) xs (p .n)) (fields-none (p .sbits) (8 * p .sbytes / p .sbits) (p .sbytes) [] (good .sGroupSome)) ∙
+      ap (λ (xs : List ℕ). first (λ v. leb v (2 * p .eta)) (λ v. pos (p .eta) -ℤ pos v) xs (p .n))
+      (fields-none (p .sbits) (8 * p .sbytes / p .sbits) (p .sbytes) [] (good .sGroupSome)) ∙
       first-none (λ v. leb v (2 * p .eta)) (λ v. pos (p .eta) -ℤ pos v) (p .n) (omega (arith, good .nSome))
 
--- "and so is a challenge stream under 8 bytes"
+-- SPEC 5.5: a challenge stream under 8 bytes is dry
 placed-none : (m i signs : ℕ) (c : List ℤ) → 0 < m → placed [] m i signs c ≡ dry
 unfolding placed
 placed-none zero i signs c l = absurd (omega arith)
@@ -54,7 +55,7 @@ under-8 p t bs l =
     (groups-none 2 (drop 8 bs) (omega (arith, length-drop 8 bs))) ∙
     placed-none (p .tau) (p .n - p .tau) (value 256 (take 8 bs)) (replicate (p .n) (pos 0)) t
 
--- "a last group that is cut short is not used"
+-- SPEC 5.2: a last group that is cut short is not used
 module _ (g k : ℕ) (bs cut : List ℕ) (small : (i : ℕ) → getD (bs ++ cut) i 0 < 256) (e : length bs ≡ k * g) (l : length cut < g) where
   small-bs : (i : ℕ) → getD bs i 0 < 256
   small-bs i =
@@ -87,7 +88,7 @@ group-run : groups 3 (1 ∷ 2 ∷ 3 ∷ 4 ∷ []) ≡ 197121 ∷ []
 unfolding value digits codes
 group-run = refl
 
-code-run : first (isS tri1) (meansS tri1) (sDraws tri1 (27 ∷ [])) 3 ≡ drew (negsuc 0 ∷ pos 0 ∷ pos 1 ∷ [])
+code-run : first (isS set1) (meansS set1) (sDraws set1 (27 ∷ [])) 3 ≡ drew (negsuc 0 ∷ pos 0 ∷ pos 1 ∷ [])
 unfolding value digits codes first
 code-run = refl
 
@@ -109,12 +110,21 @@ marked dry = []
 
 -- 120 bytes of that stream are enough for it; 99 are one draw short
 abbrev stream : List ℕ
-stream = 170 ∷ 121 ∷ 200 ∷ 144 ∷ 201 ∷ 72 ∷ 58 ∷ 99 ∷ 106 ∷ 100 ∷ 238 ∷ 6 ∷ 75 ∷ 160 ∷ 214 ∷ 231 ∷ 199 ∷ 205 ∷ 171 ∷ 154 ∷ 159 ∷ 132 ∷ 255 ∷ 76 ∷ 43 ∷ 247 ∷ 252 ∷ 86 ∷ 34 ∷ 3 ∷ 38 ∷ 182 ∷ 75 ∷ 19 ∷ 74 ∷ 211 ∷ 227 ∷ 144 ∷ 136 ∷ 102 ∷ 175 ∷ 140 ∷ 53 ∷ 25 ∷ 122 ∷ 241 ∷ 18 ∷ 130 ∷ 131 ∷ 204 ∷ 190 ∷ 206 ∷ 26 ∷ 76 ∷ 86 ∷ 177 ∷ 218 ∷ 104 ∷ 81 ∷ 108 ∷ 247 ∷ 215 ∷ 222 ∷ 2 ∷ 173 ∷ 242 ∷ 217 ∷ 171 ∷ 217 ∷ 20 ∷ 78 ∷ 166 ∷ 173 ∷ 144 ∷ 173 ∷ 127 ∷ 197 ∷ 89 ∷ 245 ∷ 31 ∷ 113 ∷ 75 ∷ 98 ∷ 192 ∷ 224 ∷ 235 ∷ 248 ∷ 166 ∷ 72 ∷ 224 ∷ 202 ∷ 159 ∷ 211 ∷ 104 ∷ 55 ∷ 179 ∷ 36 ∷ 22 ∷ 188 ∷ 65 ∷ 93 ∷ 184 ∷ 121 ∷ 210 ∷ 174 ∷ 11 ∷ 107 ∷ 143 ∷ 27 ∷ 152 ∷ 29 ∷ 168 ∷ 145 ∷ 250 ∷ 127 ∷ 212 ∷ 32 ∷ 189 ∷ 24 ∷ 187 ∷ []
+stream =
+    170 ∷ 121 ∷ 200 ∷ 144 ∷ 201 ∷ 72 ∷ 58 ∷ 99 ∷ 106 ∷ 100 ∷ 238 ∷ 6 ∷ 75 ∷ 160 ∷ 214 ∷ 231 ∷ 199 ∷ 205 ∷ 171 ∷ 154 ∷
+    159 ∷ 132 ∷ 255 ∷ 76 ∷ 43 ∷ 247 ∷ 252 ∷ 86 ∷ 34 ∷ 3 ∷ 38 ∷ 182 ∷ 75 ∷ 19 ∷ 74 ∷ 211 ∷ 227 ∷ 144 ∷ 136 ∷ 102 ∷
+    175 ∷ 140 ∷ 53 ∷ 25 ∷ 122 ∷ 241 ∷ 18 ∷ 130 ∷ 131 ∷ 204 ∷ 190 ∷ 206 ∷ 26 ∷ 76 ∷ 86 ∷ 177 ∷ 218 ∷ 104 ∷ 81 ∷ 108 ∷
+    247 ∷ 215 ∷ 222 ∷ 2 ∷ 173 ∷ 242 ∷ 217 ∷ 171 ∷ 217 ∷ 20 ∷ 78 ∷ 166 ∷ 173 ∷ 144 ∷ 173 ∷ 127 ∷ 197 ∷ 89 ∷ 245 ∷ 31 ∷
+    113 ∷ 75 ∷ 98 ∷ 192 ∷ 224 ∷ 235 ∷ 248 ∷ 166 ∷ 72 ∷ 224 ∷ 202 ∷ 159 ∷ 211 ∷ 104 ∷ 55 ∷ 179 ∷ 36 ∷ 22 ∷ 188 ∷ 65 ∷
+    93 ∷ 184 ∷ 121 ∷ 210 ∷ 174 ∷ 11 ∷ 107 ∷ 143 ∷ 27 ∷ 152 ∷ 29 ∷ 168 ∷ 145 ∷ 250 ∷ 127 ∷ 212 ∷ 32 ∷ 189 ∷ 24 ∷ 187 ∷ []
 
-whole : marked (challenge tri1 stream) ≡ 72 ∷ 75 ∷ 10098 ∷ 173 ∷ 10211 ∷ 10218 ∷ 10227 ∷ 309 ∷ 342 ∷ 10378 ∷ 444 ∷ 453 ∷ 10530 ∷ 10683 ∷ 10685 ∷ 10734 ∷ 802 ∷ 10823 ∷ 842 ∷ 10843 ∷ 881 ∷ 985 ∷ 992 ∷ 1050 ∷ 11105 ∷ []
+whole :
+    marked (challenge set1 stream) ≡
+    72 ∷ 75 ∷ 10098 ∷ 173 ∷ 10211 ∷ 10218 ∷ 10227 ∷ 309 ∷ 342 ∷ 10378 ∷ 444 ∷ 453 ∷ 10530 ∷
+    10683 ∷ 10685 ∷ 10734 ∷ 802 ∷ 10823 ∷ 842 ∷ 10843 ∷ 881 ∷ 985 ∷ 992 ∷ 1050 ∷ 11105 ∷ []
 unfolding marked value digits codes placed challenge
 whole = refl
 
-short : challenge tri1 (take 99 stream) ≡ dry
+short : challenge set1 (take 99 stream) ≡ dry
 unfolding value digits codes placed challenge
 short = refl

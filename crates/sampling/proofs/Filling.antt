@@ -16,11 +16,11 @@ use Rattle.residues.proofs.Order.{below-or}
 use Rattle.outcome.specs.Outcome.{Is}
 use Rattle.buffers.specs.Buffers.{overlay}
 use Rattle.buffers.proofs.Copies.{overlay-all}
-use Rattle.sets.specs.Result.{pick}
+use Rattle.answers.specs.Result.{pick}
 use Rattle.sampling.specs.declared.Sampled.{Sampled}
 use Rattle.sampling.specs.declared.Sampled.the-variants.{All, Dry}
 use Rattle.sampling.specs.Samplers.{Drawn, dry, drew, also, first}
-use Rattle.sampling.specs.Engine.{verdict, passing, gathered, Free, kept, filled}
+use Rattle.sampling.specs.Inner.{verdict, passing, gathered, Free, kept, filled}
 
 -- what an answer and a buffer say of a stream
 abbrev pub said : Sampled → List ℤ → Drawn

@@ -12,7 +12,7 @@ use Rattle.outcome.specs.Outcome.{Is}
 use Rattle.sets.specs.Set.{Set}
 use Rattle.sets.specs.Good.{Good}
 use Rattle.sampling.specs.declared.Sampled.the-variants.{All, Dry}
-use Rattle.sampling.specs.Engine.{aDraws, sDraws, passing, gathered, Free, kept, filled, isA, isS, meansS, drawnA, drawnS}
+use Rattle.sampling.specs.Inner.{aDraws, sDraws, passing, gathered, Free, kept, filled, isA, isS, meansS, drawnA, drawnS}
 use Rattle.sampling.proofs.Groups.{drop-small, groups-next, groups-none, fields-next, fields-none}
 use Rattle.sampling.proofs.Bounds.{some-bytes}
 use Rattle.sampling.proofs.Sparse.{at-zeros}

@@ -22,7 +22,7 @@ digits-append b (suc n) m x =
     (digits-append b n m (x / b) ∙
     ap (λ (y : ℕ). digits b n (x / b) ++ digits b m y) (div-div-eq-div-mul x b (b ^ n) ∙ ap (λ (y : ℕ). x / y) (sym (pow-succ' b n))))
 
--- "cut into 4,352 groups of 3 bytes, little-endian"
+-- SPEC 5.2: groups, little-endian
 pub group-at : (g : ℕ) (bs : List ℕ) (k : ℕ) → ((i : ℕ) → getD bs i 0 < 256) → k < length bs / g
     → getD (groups g bs) k 0 ≡ value 256 (take g (drop (g * k) bs))
 group-at g bs k small l =

@@ -3,8 +3,7 @@ pub mod Bounds
 pub mod Groups
 pub mod Drawing
 pub mod Sparse
-pub mod Masking
-pub mod Set1
+pub mod Ranges
 pub mod Edges
 -- The code: what it leaves behind, how that is tied to the definitions, and its loops.
 pub mod Filling
@@ -14,6 +13,6 @@ pub mod Reading
 pub mod Going
 pub mod Taking
 pub mod Stepping
--- The calls for trinomial level 1, and that each contract permits one outcome.
+-- The calls for set 1, and that each contract permits one outcome.
 pub mod Calling
 pub mod Determined

@@ -9,10 +9,10 @@ use lib.Dec.{leb, eqb, eqb·suc-zero}
 use lib.IntN.{ℤ, pos}
 use lib.ListN.{set, getD}
 use Rattle.outcome.specs.Outcome.{Is}
-use Rattle.sets.specs.Result.{pick}
+use Rattle.answers.specs.Result.{pick}
 use Rattle.sampling.specs.declared.Sampled.the-variants.{All, Dry}
 use Rattle.sampling.specs.Samplers.{Drawn, dry, drew, sign, placed}
-use Rattle.sampling.specs.Engine.{verdict, placing, placedAll}
+use Rattle.sampling.specs.Inner.{verdict, placing, placedAll}
 
 -- the definition draws an element exactly if no step is left
 pub placed-placing : (js : List ℕ) (m i signs : ℕ) (c : List ℤ)

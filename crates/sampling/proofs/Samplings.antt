@@ -9,10 +9,10 @@ use lib.ListN.{take, drop, replicate}
 use Rattle.digits.specs.Digits.{value}
 use Rattle.outcome.specs.Outcome.{Is}
 use Rattle.sets.specs.Set.{Set}
-use Rattle.sets.specs.Result.{pick}
+use Rattle.answers.specs.Result.{pick}
 use Rattle.sampling.specs.declared.Sampled.{Sampled}
 use Rattle.sampling.specs.Samplers.{dry, drew, sampleA, sampleS, challenge}
-use Rattle.sampling.specs.Engine.{verdict, aDraws, sDraws, cDraws, isA, isS, meansS, placing, drawnA, drawnS, drawnC}
+use Rattle.sampling.specs.Inner.{verdict, aDraws, sDraws, cDraws, isA, isS, meansS, placing, drawnA, drawnS, drawnC}
 use Rattle.sampling.proofs.Filling.{said, tied}
 use Rattle.sampling.proofs.Placing.{placed-placing}
 

@@ -1,4 +1,4 @@
--- What the challenge's sampler draws: "τ ±1's and n - τ 0's" (002, Algorithm 1).
+-- What the challenge's sampler draws: τ coefficients 1 or -1, and n - τ zeros (SPEC 12.3).
 use mathlib.Core.Path.{_≡_, refl, ap, _∙_}
 use mathlib.Core.Bool.{Bool, true, false, cond}
 use mathlib.Core.List.{List, [], _∷_}
@@ -85,7 +85,7 @@ module _ (n : ℕ) (c : List ℤ) (m i j : ℕ) (v : ℤ) (S : Sparse n m c) (l 
   kept (yes e) = ap (λ (k : ℕ). getD (set c i (getD c j (pos 0))) k (pos 0)) e ∙ getD-set-same c i (getD c j (pos 0)) (pos 0) (omega (arith, S .long))
   kept (no e) = getD-set-other c i j (getD c j (pos 0)) (pos 0) e
 
-  -- "place i takes the value at j, and j takes the sign": one more that is not 0, since place i was empty
+  -- SPEC 5.5: one more that is not 0, since place i was empty
   step-sparse : Sparse n (suc m) step
   step-sparse = record {
     long = length-set (set c i (getD c j (pos 0))) j v ∙ length-set c i (getD c j (pos 0)) ∙ S .long;

@@ -12,7 +12,7 @@ use Rattle.sets.specs.Set.{Set}
 use Rattle.sets.specs.Good.{Good}
 use Rattle.sampling.specs.declared.Sampled.the-variants.{All, Dry}
 use Rattle.sampling.specs.Samplers.{sign}
-use Rattle.sampling.specs.Engine.{cDraws, placing, drawnC}
+use Rattle.sampling.specs.Inner.{cDraws, placing, drawnC}
 use Rattle.sampling.proofs.Groups.{drop-small, groups-next, groups-none}
 use Rattle.sampling.proofs.Placing.{placing-used, placing-again, placed-all, placed-some}
 

@@ -8,7 +8,7 @@ use lib.ListN.{length, getD, take, drop}
 use Rattle.digits.specs.Digits.{value, digits, codes}
 use Rattle.outcome.specs.Outcome.{Is}
 use Rattle.sets.specs.Set.{Set}
-use Rattle.sampling.specs.Engine.{Free, kept, filled, isS, meansS}
+use Rattle.sampling.specs.Inner.{Free, kept, filled, isS, meansS}
 use Rattle.sampling.proofs.Reading.{codes-in-window}
 use Rattle.sampling.proofs.Filling.{kept-free, filled-one, filled-full, filled-nil}
 

@@ -1,5 +1,4 @@
--- The samplers over a stream of any length, and over SHAKE256's.
+-- The samplers over a stream of any length, and the calls.
 pub mod Samplers
-pub mod Streams
-pub mod Engine
 pub mod Calls
+pub mod Inner

@@ -1,5 +1,4 @@
-// The challenge (002, Algorithm 1, one polynomial): "Step k has i = 1127 + k. Each draw takes the next two bytes and keeps the low 11 bits as j;
-// it is used if j ≤ i. Then place i takes the value at j, and j takes the sign."
+// The challenge (SPEC 5.5).
 use crate::Sampled;
 use sets::numbers::Numbers;
 ghost use mathlib.Core.Path.{_≡_};
@@ -10,16 +9,16 @@ ghost use Rattle.outcome.specs.Outcome.{Is};
 ghost use Rattle.sets.specs.Good.{Good};
 ghost use Rattle.digits.specs.Digits.{value};
 ghost use Rattle.sampling.specs.Samplers.{sign};
-ghost use Rattle.sampling.specs.Engine.{drawnC};
+ghost use Rattle.sampling.specs.Inner.{drawnC};
 
-// "Bit k of the first 8 bytes, read as one little-endian number, is the sign of step k"
+// The number whose bit k is the sign of step k (SPEC 5.5).
 fn sign_bits(stream: &[u8]) -> u64
     ensures { λ r. ⌜ r ≡ value 256 (take 8 (now (stream .entry))) ⌝ }
 {
     (digits::window(stream, 0) as u64) + 4294967296 * (digits::window(stream, 4) as u64)
 }
 
-// "a 1 means -1"
+// A 1 means -1 (SPEC 5.5).
 fn sign(bit: u64) -> i32
     ensures { λ r. ⌜ r ≡ sign bit ⌝ }
 {

@@ -1,4 +1,4 @@
-// a: "cut into 4,352 groups of 3 bytes, little-endian. A group below q is the next coefficient; others are skipped."
+// a (SPEC 5.2).
 use crate::Sampled;
 use sets::numbers::Numbers;
 ghost use mathlib.Core.Path.{_≡_};
@@ -8,7 +8,7 @@ ghost use lib.ListN.{length, take, getD};
 ghost use Rattle.outcome.specs.Outcome.{Is};
 ghost use Rattle.sets.specs.Good.{Good};
 ghost use Rattle.digits.specs.Digits.{value};
-ghost use Rattle.sampling.specs.Engine.{kept, drawnA};
+ghost use Rattle.sampling.specs.Inner.{kept, drawnA};
 
 // The group that stands first, of which the low bits are kept.
 fn group(p: Numbers, stream: &[u8]) -> u32

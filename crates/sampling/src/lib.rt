@@ -1,7 +1,7 @@
-// The samplers (01, "Streams and samplers"): a, s and the challenge from a stream of any length, for any set.
+// The samplers (SPEC 5): a, s and the challenge from a stream of any length, for any set.
 pub mod challenge;
 pub mod element;
-pub mod level1;
+pub mod set1;
 pub mod small;
 
 ghost use mathlib.Core.Path.{_≡_};
@@ -9,7 +9,7 @@ ghost use mathlib.Core.Bool.{cond};
 ghost use Prim.Native.Nat.{_+_, _^_, _<_};
 ghost use lib.IntN.{pos};
 
-// Every coefficient was found, or the stream was dry.
+// Every coefficient was found, or the stream was dry (SPEC 5.1).
 pub enum Sampled {
     All,
     Dry,

@@ -1,4 +1,4 @@
-// s: "each byte gives four 2-bit codes, lowest bits first. Codes 0, 1, 2 mean coefficients 1, 0, -1; code 3 is skipped."
+// s (SPEC 5.3).
 use crate::Sampled;
 use sets::numbers::Numbers;
 ghost use mathlib.Core.Path.{_≡_};
@@ -8,7 +8,7 @@ ghost use lib.ListN.{length, getD};
 ghost use Rattle.outcome.specs.Outcome.{Is};
 ghost use Rattle.sets.specs.Good.{Good};
 ghost use Rattle.digits.specs.Digits.{codes};
-ghost use Rattle.sampling.specs.Engine.{Free, kept, filled, isS, meansS, drawnS};
+ghost use Rattle.sampling.specs.Inner.{Free, kept, filled, isS, meansS, drawnS};
 
 // A code up to 2η goes to the next place, which holds 0.
 fn keep(p: Numbers, v: u32, out: &mut [i32], found: usize) -> usize

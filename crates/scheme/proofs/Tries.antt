@@ -8,15 +8,16 @@ use native.Mathlib.Omega.{arith}
 use native.Mathlib.Decide.{ℕ-discrete}
 use borrow.Author.Tests.{leb-true, leb-false}
 use lib.IntN.{ℤ}
-use Rattle.sets.specs.declared.refusal.Refusal.the-variants.{Spent}
-use Rattle.sets.specs.Result.{Result, done, refused, pick}
+use Rattle.answers.specs.declared.Refusal.the-variants.{Spent}
+use Rattle.answers.specs.Result.{Result, done, refused, pick}
 use Rattle.rounding.specs.Rounding.{norm}
-use Rattle.ring.specs.Profile.{Profile, mul}
+use Rattle.ring.specs.Profile.{mul}
 use Rattle.packing.specs.Parts.{packSignature, ones}
 use Rattle.sampling.specs.Samplers.{Drawn, drew, dry}
 use Rattle.scheme.specs.Elements.{lows}
 use Rattle.scheme.specs.Try.{Reason, ZLarge, LowLarge, Ct0Large, ManyOnes, Try, passes, fails, Signer, response, masked, hints, judged}
 use Rattle.scheme.specs.Sign.{Signed, orNext, firstPass}
+use Rattle.sets.specs.Set.{Set}
 
 -- ---- the first
 pub record First (t : ℕ → Try) (κ m : ℕ) (s : Signed) : Type 0 where
@@ -91,23 +92,23 @@ accept : (b : Bool) (x : List ℕ) (r : Reason) (σ : List ℕ) → pick b (pass
 accept true x r σ e = (refl, cc)
 accept false x r σ e = let z : _≡_ {A = ℕ} 0 1 = cc in absurd (omega arith)
 
-pub record Passed (P : Profile) (S : Signer) (y w : List ℤ) (c~ : List ℕ) (d : Drawn) (σ : List ℕ) : Type 0 where
+pub record Passed (p : Set) (S : Signer) (y w : List ℤ) (c~ : List ℕ) (d : Drawn) (σ : List ℕ) : Type 0 where
   pub c : List ℤ
   pub drawn-is : d ≡ drew c
-  pub z-small : norm (P .num .q) (response P S y c) < P .num .gamma1 - P .num .beta
-  pub low-small : norm (P .num .q) (lows P (masked P S w c)) < P .num .gamma2 - P .num .beta
-  pub ct0-small : norm (P .num .q) (mul P c (S .t0)) < P .num .gamma2
-  pub few-ones : ones (hints P S w c) ≤ P .num .omega
-  pub signature-is : σ ≡ packSignature (P .num) record { c~ = c~; z = response P S y c; h = hints P S w c }
+  pub z-small : norm (p .q) (response p S y c) < p .gamma1 - p .beta
+  pub low-small : norm (p .q) (lows p (masked p S w c)) < p .gamma2 - p .beta
+  pub ct0-small : norm (p .q) (mul p c (S .t0)) < p .gamma2
+  pub few-ones : ones (hints p S w c) ≤ p .omega
+  pub signature-is : σ ≡ packSignature p record { c~ = c~; z = response p S y c; h = hints p S w c }
 
-pub passed-of : (P : Profile) (S : Signer) (y w : List ℤ) (c~ : List ℕ) (d : Drawn) (σ : List ℕ) → judged P S y w c~ d ≡ passes σ → Passed P S y w c~ d σ
+pub passed-of : (p : Set) (S : Signer) (y w : List ℤ) (c~ : List ℕ) (d : Drawn) (σ : List ℕ) → judged p S y w c~ d ≡ passes σ → Passed p S y w c~ d σ
 unfolding judged
-passed-of P S y w c~ dry σ e = let z : _≡_ {A = ℕ} 0 1 = cc in absurd (omega arith)
-passed-of P S y w c~ (drew c) σ e =
+passed-of p S y w c~ dry σ e = let z : _≡_ {A = ℕ} 0 1 = cc in absurd (omega arith)
+passed-of p S y w c~ (drew c) σ e =
     let a = reject _ ZLarge _ σ e in
     let b = reject _ LowLarge _ σ (a .1) in
     let g = reject _ Ct0Large _ σ (b .1) in
-    let h = accept _ (packSignature (P .num) record { c~ = c~; z = response P S y c; h = hints P S w c }) ManyOnes σ (g .1) in
+    let h = accept _ (packSignature p record { c~ = c~; z = response p S y c; h = hints p S w c }) ManyOnes σ (g .1) in
     record {
       c = c;
       drawn-is = refl;

@@ -1,19 +1,20 @@
--- Deterministic signing with a cap on tries (002, Algorithm 9; 01, "Making, signing, checking").
+-- Deterministic signing with a cap on tries (SPEC 8).
 use Prim.Native.Nat.{ℕ, zero, suc, _+_}
-use mathlib.Core.Bool.{Bool, _&&_}
+use mathlib.Core.Bool.{Bool, cond, _&&_}
 use mathlib.Core.List.{List, _++_}
 use lib.Dec.{eqb, leb}
 use lib.ListN.{length}
-use Rattle.sets.specs.Set.{messageMax, tryMax}
-use Rattle.sets.specs.declared.refusal.Buffer.the-variants.{SecretKey as SecretBuffer, Signature as SignatureBuffer}
-use Rattle.sets.specs.declared.refusal.Refusal.{Refusal}
-use Rattle.sets.specs.declared.refusal.Refusal.the-variants.{Length, LongMessage, TryLimit, Coefficient, Hint, Dry, Spent, Differs}
-use Rattle.sets.specs.declared.refusal.Report.{Report}
-use Rattle.sets.specs.Refusals.{doneReport, refusalReport}
-use Rattle.sets.specs.Result.{Result, done, refused, _>>=_, _>>_, need}
-use Rattle.ring.specs.Profile.{Profile}
-use Rattle.packing.specs.Parts.{SecretKey, readSecret, part, total, secretParts, signatureParts}
-use Rattle.sampling.specs.Streams.{Hash, expandA}
+use lib.IntN.{ℤ}
+use Rattle.sets.specs.Set.{messageMax, tryMax, wideSize, Set}
+use Rattle.answers.specs.declared.Buffer.the-variants.{SecretKey as SecretBuffer, Signature as SignatureBuffer}
+use Rattle.answers.specs.declared.Refusal.{Refusal}
+use Rattle.answers.specs.declared.Refusal.the-variants.{Length, LongMessage, TryLimit, Spent}
+use Rattle.answers.specs.declared.Report.{Report}
+use Rattle.answers.specs.Refusals.{doneReport, refusalNumber, refusalReport}
+use Rattle.answers.specs.Result.{Result, done, refused, _>>=_, _>>_, need}
+use Rattle.packing.specs.declared.parts.Part.the-variants as part
+use Rattle.packing.specs.Parts.{SecretKey, readSecret, bytesOf, secretSize, signatureSize}
+use Rattle.streams.specs.Streams.{Hash, expandA}
 use Rattle.scheme.specs.Try.{Try, passes, fails, Signer, try}
 
 -- a signature, and how many tries it took
@@ -25,59 +26,73 @@ abbrev pub orNext : Try → ℕ → Result Signed → Result Signed
 orNext (passes σ) κ next = done record { count = κ + 1; bytes = σ }
 orNext (fails r) κ next = next
 
--- m tries from κ on: "The signer takes the first attempt that passes and looks at no later one."; "8: every try up to the limit failed"
+-- SPEC 8.8: m tries from κ on; number 8 where every one failed
 unfoldable pub firstPass : (ℕ → Try) → ℕ → ℕ → Result Signed
 firstPass t κ zero = refused Spent
 firstPass t κ (suc m) =
     let next = firstPass t (suc κ) m in
     orNext (t κ) κ next
 
--- "μ = H(ph then M, 64)" (line 2)
-abbrev pub muOf : Profile → Hash → List ℕ → List ℕ → List ℕ
-muOf P H sk M = H (part (secretParts (P .num)) 1 sk ++ M) 64
+-- SPEC 8.1: μ, with ph given
+abbrev pub mu : Hash → List ℕ → List ℕ → List ℕ
+mu H ph M = H (ph ++ M) wideSize
 
--- "ρ = H(K then μ, 64)" (line 4)
-abbrev pub rhoOf : Profile → Hash → List ℕ → List ℕ → List ℕ
-rhoOf P H sk M = H (part (secretParts (P .num)) 2 sk ++ muOf P H sk M) 64
+abbrev pub muOf : Set → Hash → List ℕ → List ℕ → List ℕ
+muOf p H sk M = mu H (bytesOf p part.Ph sk) M
 
--- the secret key is read, then the stream of a
-unfoldable pub readSigner : Profile → Hash → List ℕ → List ℕ → List ℕ → Result Signer
-readSigner P H sk M ρ =
+-- SPEC 8.2: ρ
+abbrev pub rhoOf : Set → Hash → List ℕ → List ℕ → List ℕ
+rhoOf p H sk M = H (bytesOf p part.K sk ++ muOf p H sk M) wideSize
+
+-- SPEC 8.3: what the tries read of the secret key, and then the stream of a
+pub record Key : Type 0 where
+  pub a : List ℤ
+  pub s1 : List ℤ
+  pub s2 : List ℤ
+  pub t0 : List ℤ
+
+unfoldable pub readKey : Set → Hash → List ℕ → Result Key
+readKey p H sk =
     do
-      k ← readSecret (P .num) sk
-      a ← expandA (P .num) H (k .zeta)
-      done record { a = a; s1 = k .s1; s2 = k .s2; t0 = k .t0; mu = muOf P H sk M; rho = ρ }
+      k ← readSecret p sk
+      a ← expandA p H (k .zeta)
+      done record { a = a; s1 = k .s1; s2 = k .s2; t0 = k .t0 }
 
--- the call with ρ given: checks in the order of their numbers, then the tries
-unfoldable pub signWith : Profile → Hash → List ℕ → List ℕ → ℕ → List ℕ → List ℕ → Result Signed
-signWith P H sk M limit out ρ =
+-- with μ and ρ beside it
+abbrev pub signerWith : Key → List ℕ → List ℕ → Signer
+signerWith k μ ρ = record { a = k .a; s1 = k .s1; s2 = k .s2; t0 = k .t0; mu = μ; rho = ρ }
+
+unfoldable pub readSigner : Set → Hash → List ℕ → List ℕ → List ℕ → Result Signer
+readSigner p H sk M ρ =
     do
-      need (eqb (length sk) (total (secretParts (P .num)))) (Length SecretBuffer)
-      need (eqb (length out) (total (signatureParts (P .num)))) (Length SignatureBuffer)
+      k ← readKey p H sk
+      done (signerWith k (muOf p H sk M) ρ)
+
+-- SPEC 8.9, 8.11: the call with ρ given: checks in the order of their numbers, then the tries
+unfoldable pub signWith : Set → Hash → List ℕ → List ℕ → ℕ → List ℕ → List ℕ → Result Signed
+signWith p H sk M limit out ρ =
+    do
+      need (eqb (length sk) (secretSize p)) (Length SecretBuffer)
+      need (eqb (length out) (signatureSize p)) (Length SignatureBuffer)
       need (leb (length M) messageMax) LongMessage
       need (leb 1 limit && leb limit tryMax) TryLimit
-      S ← readSigner P H sk M ρ
-      firstPass (try P H S) 0 limit
+      S ← readSigner p H sk M ρ
+      firstPass (try p H S) 0 limit
 
-unfoldable pub sign : Profile → Hash → List ℕ → List ℕ → ℕ → List ℕ → Result Signed
-sign P H sk M limit out = signWith P H sk M limit out (rhoOf P H sk M)
+-- SPEC 8.9: the call, with the definition's own ρ
+unfoldable pub sign : Set → Hash → List ℕ → List ℕ → ℕ → List ℕ → Result Signed
+sign p H sk M limit out = signWith p H sk M limit out (rhoOf p H sk M)
 
--- "Its answer carries the count of tries: κ + 1 at success, the limit at refusal 8, 0 at any other refusal."
+-- SPEC 8.10: the count of tries is the limit at number 8, and 0 at every other refusal
 abbrev pub countAt : ℕ → Refusal → ℕ
-countAt limit (Length b) = 0
-countAt limit LongMessage = 0
-countAt limit TryLimit = 0
-countAt limit (Coefficient f i) = 0
-countAt limit Hint = 0
-countAt limit Dry = 0
-countAt limit Spent = limit
-countAt limit Differs = 0
+countAt limit r = cond (eqb (refusalNumber r) 8) limit 0
 
+-- SPEC 8.10: what the call answers, in numbers
 abbrev pub signTold : ℕ → Result Signed → Report
 signTold limit (done s) = doneReport (s .count)
 signTold limit (refused r) = refusalReport r (countAt limit r)
 
--- "At every refusal the output buffers keep what they held"
+-- SPEC 10.5
 abbrev pub signLeft : Result Signed → List ℕ → List ℕ
 signLeft (done s) old = s .bytes
 signLeft (refused r) old = old

@@ -1,1 +1,1 @@
-// No code: Algorithms 8, 9 and 10 as 01 fixes them (specs/), and that what signing signs, checking accepts (proofs/Demand3.antt).
+// No code: key making, signing and checking as SPEC 7 to 9 say them (specs/), and that what signing signs, checking accepts (proofs/Demand3.antt).

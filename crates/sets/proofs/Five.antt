@@ -1,17 +1,29 @@
--- Trinomial level 1 meets the conditions, and so do the sets that later requests bring (E7: 1536, 2048, 2304; E13: 1201), by computing.
+-- Set 1 meets the conditions, and so do the four sets of SPEC 1.6, by computing.
+use mathlib.Core.Path.{refl}
 use native.Mathlib.Omega.{arith}
-use Rattle.sets.specs.Set.{Set, tri1}
+use Rattle.sets.specs.declared.numbers.Ring.the-variants as ring
+use Rattle.sets.specs.Set.{Set, set1}
 use Rattle.sets.specs.Good.{Good, Trinomial}
 
-pub ready-tri1 : Trinomial tri1
-ready-tri1 = omega arith
+pub good-set1 : Good set1
+good-set1 = omega arith
 
-pub good-tri1 : Good tri1
-good-tri1 = omega arith
+pub ready-set1 : Trinomial set1
+ready-set1 = record {
+  good = good-set1;
+  kind = refl;
+  even = omega arith;
+  held = omega arith;
+  aHeld = omega arith;
+  sHeld = omega arith;
+  cHeld = omega arith;
+  yHeld = omega arith;
+  w1Held = omega arith;
+}
 
--- 002, Table 5, and E7: "Streams: a gets 129, 171 and 192 blocks, s1 and s2 12 each. Top t1: 2050, 4092, 1026."
-abbrev pub tri2 : Set
-tri2 = record {
+-- SPEC 1.6: set 2
+abbrev pub set2 : Set
+set2 = record {
   n = 1536;
   q = 8397313;
   d = 12;
@@ -33,10 +45,12 @@ tri2 = record {
   sstream = 1632;
   jbits = 11;
   cstream = 544;
+  ring = ring.Trinomial;
 }
 
-abbrev pub tri3 : Set
-tri3 = record {
+-- SPEC 1.6: set 3
+abbrev pub set3 : Set
+set3 = record {
   n = 2048;
   q = 8380417;
   d = 11;
@@ -58,11 +72,12 @@ tri3 = record {
   sstream = 1632;
   jbits = 11;
   cstream = 544;
+  ring = ring.Trinomial;
 }
 
--- E7: "At 2304 z and y take 20 bits, t1 11, t0 13, w1 4, and challenge draws keep 12 low bits"
-abbrev pub tri4 : Set
-tri4 = record {
+-- SPEC 1.6: set 4
+abbrev pub set4 : Set
+set4 = record {
   n = 2304;
   q = 8404993;
   d = 13;
@@ -84,11 +99,12 @@ tri4 = record {
   sstream = 1632;
   jbits = 12;
   cstream = 544;
+  ring = ring.Trinomial;
 }
 
--- 002, Table 2, and E13: "t1 13 bits up to 4219, s 3 bits .., z 20 bits, w1 6 bits .., a draws 4 bytes each .. from 128 blocks with the low 25 bits kept"
-abbrev pub prime5 : Set
-prime5 = record {
+-- SPEC 1.6: set 5
+abbrev pub set5 : Set
+set5 = record {
   n = 1201;
   q = 17279291;
   d = 12;
@@ -110,16 +126,17 @@ prime5 = record {
   sstream = 1632;
   jbits = 11;
   cstream = 544;
+  ring = ring.Prime;
 }
 
-pub good-tri2 : Good tri2
-good-tri2 = omega arith
+pub good-set2 : Good set2
+good-set2 = omega arith
 
-pub good-tri3 : Good tri3
-good-tri3 = omega arith
+pub good-set3 : Good set3
+good-set3 = omega arith
 
-pub good-tri4 : Good tri4
-good-tri4 = omega arith
+pub good-set4 : Good set4
+good-set4 = omega arith
 
-pub good-prime5 : Good prime5
-good-prime5 = omega arith
+pub good-set5 : Good set5
+good-set5 = omega arith

@@ -1,6 +1,3 @@
--- The sets of the documents meet the conditions; an answer is known by its report; each contract permits one outcome.
+-- Set 1 and the sets of SPEC 1.6 meet the conditions; each contract permits one outcome.
 pub mod Five
-pub mod Reports
-pub mod Outcomes
 pub mod Determined
-pub mod Results

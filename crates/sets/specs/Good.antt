@@ -1,8 +1,9 @@
--- What is asked of a set. The laws hold for every set that meets it, and the code's sums, casts and shifts are safe for it.
+-- What is asked of a set (SPEC 1.5). The laws hold for every set that meets it, and the code's sums, casts and shifts are safe for it.
 -- Each condition is one on numbers, so that a set is shown to meet them by computing.
 use mathlib.Core.Path.{_≡_}
 use Prim.Native.Nat.{ℕ, _+_, _-_, _*_, _/_, _%_, _^_, _≤_, _<_}
-use Rattle.sets.specs.Set.{Set, alpha, steps, capacity, streamCapacity}
+use Rattle.sets.specs.declared.numbers.Ring.the-variants as ring
+use Rattle.sets.specs.Set.{Set, alpha, steps, capacity, streamCapacity, w1Capacity}
 
 pub record Good (p : Set) : Type 0 where
   -- q - 1 is a whole number of steps, two or more, and a step is not empty
@@ -61,12 +62,14 @@ pub record Good (p : Set) : Type 0 where
   pub sStreamRoom : p .sstream ≤ 2 ^ 20
   pub cStreamRoom : p .cstream ≤ 2 ^ 20
 
--- What the code asks of a trinomial set beside that: X^n = X^(n/2) - 1 wants an even n, and the code's own arrays hold its elements and streams
+-- What the code asks beside that: the ring is the one, which wants an even n, and the code's own arrays hold the set's elements and streams
 pub record Trinomial (p : Set) : Type 0 where
   pub good : Good p
+  pub kind : p .ring ≡ ring.Trinomial
   pub even : p .n ≡ 2 * (p .n / 2)
   pub held : p .n ≤ capacity
   pub aHeld : p .astream ≤ streamCapacity
   pub sHeld : p .sstream ≤ streamCapacity
   pub cHeld : p .cstream ≤ streamCapacity
   pub yHeld : (p .zbits * p .n + 7) / 8 ≤ streamCapacity
+  pub w1Held : (p .w1bits * p .n + 7) / 8 ≤ w1Capacity

@@ -1,5 +1,3 @@
--- The definitions that every layer shares.
+-- The numbers of a set, and the conditions on them.
 pub mod Set
 pub mod Good
-pub mod Refusals
-pub mod Result

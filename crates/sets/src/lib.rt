@@ -1,5 +1,4 @@
-// What every layer shares: the numbers of a set, the limits of a call, and the answers that a call can give.
+// The numbers of a set, and the limits that every set keeps (SPEC 1).
 pub mod limits;
 pub mod numbers;
-pub mod refusal;
-pub mod trinomial1;
+pub mod set1;

@@ -1,6 +1,12 @@
-// The numbers of a set as one value, which inner functions take. A set's own type hands it out.
+// The numbers of a set as one value, which inner functions take (SPEC 1.1). A set's own type hands it out.
 
-// Names as in 002, Table 5, and in 01.
+// The rings that are known (SPEC 2.4): X^n = X^(n/2) - 1, and X^n = X + 1.
+pub enum Ring {
+    Trinomial,
+    Prime,
+}
+
+// Names as in SPEC 1.1.
 pub struct Numbers {
     pub n: usize,
     pub q: u32,
@@ -27,4 +33,5 @@ pub struct Numbers {
     // A draw of the challenge: two bytes, of which so many low bits are kept.
     pub jbits: usize,
     pub cstream: usize,
+    pub ring: Ring,
 }

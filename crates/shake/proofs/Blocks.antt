@@ -8,7 +8,7 @@ use lib.ListN.{take, drop, length, length-append, length-drop, take-append-drop}
 use lib.Seq.{take-append-le, drop-append-le, drop-drop, drop-length, length-take-le}
 use Rattle.keccak.specs.Keccak.{keccak}
 use Rattle.shake.specs.Shake.{absorbed, xored, pad, padded}
-use Rattle.shake.specs.Steps.{block, whole, left}
+use Rattle.shake.specs.Inner.{block, whole, left}
 
 -- n blocks do not depend on what follows them
 pub absorbed-append : (n : ℕ) (p q : List ℕ) (s : List (List ℕ)) → 136 * n ≤ length p → absorbed n (p ++ q) s ≡ absorbed n p s

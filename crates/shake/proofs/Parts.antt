@@ -7,7 +7,7 @@ use lib.ListN.{take, drop, length, set, getD, replicate, length-append, length-d
 use lib.Seq.{length-take-le, take-all, set-at, getD-at, drop-drop}
 use lib.Bits.{bitOr}
 use Rattle.shake.specs.Shake.{absorbed, pad, padded, zeros}
-use Rattle.shake.specs.Steps.{put, whole, left, Taken}
+use Rattle.shake.specs.Inner.{put, whole, left, Taken}
 use Rattle.shake.proofs.Put.{take-put, put-end}
 use Rattle.shake.proofs.Blocks.{short, one-block, whole-one, whole-cut, whole-joined, left-joined, length-left, padded-last}
 
@@ -116,7 +116,8 @@ pad-made held pos {held′} hl hp e =
     let n : length p ≡ pos = length-take-le pos held (omega arith) in
     let z : take q (replicate {A = ℕ} 136 0) ≡ replicate q 0 = zeros-cut q 136 (omega arith) in
     let f : held′ ≡ p ++ replicate q 0 = e ∙ ap (put held pos) z ∙ put-end held pos (replicate q 0) (omega (arith, length-replicate {A = ℕ} q 0)) in
-    rw f (subst (λ (j : ℕ). set (set (p ++ replicate q 0) j 0x1f) 135 (bitOr (getD (set (p ++ replicate q 0) j 0x1f) 135 0) 0x80) ≡ p ++ pad q) n (ends-set q p (omega arith) (omega arith)))
+    rw f (subst (λ (j : ℕ). set (set (p ++ replicate q 0) j 0x1f) 135 (bitOr (getD (set (p ++ replicate q 0) j 0x1f) 135 0) 0x80) ≡ p ++ pad q) n
+    (ends-set q p (omega arith) (omega arith)))
 
 -- ---- the whole message
 

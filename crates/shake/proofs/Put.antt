@@ -6,7 +6,7 @@ use native.Mathlib.Omega.{arith}
 use native.Mathlib.Numerals.{towards-suc}
 use lib.ListN.{take, drop, length, set, length-append, length-drop, drop-of-length-le}
 use lib.Seq.{length-take-le, take-at, drop-append-add, drop-drop, sets-eq}
-use Rattle.shake.specs.Steps.{put}
+use Rattle.shake.specs.Inner.{put}
 
 module _ (out xs : List ℕ) (i : ℕ) (h : i + length xs ≤ length out) where
   front : length (take i out ++ xs) ≡ i + length xs

@@ -8,7 +8,7 @@ use lib.ListN.{take, length}
 use lib.Seq.{take-append-le, take-append-add, length-take-le}
 use Rattle.keccak.specs.Keccak.{keccak}
 use Rattle.shake.specs.Shake.{bytes, squeezed}
-use Rattle.shake.specs.Steps.{put}
+use Rattle.shake.specs.Inner.{put}
 use Rattle.shake.proofs.Put.{length-put, take-put, put-end}
 
 pub length-bytes : (n i : ℕ) (s : List (List ℕ)) → length (bytes n i s) ≡ n

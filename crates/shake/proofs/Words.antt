@@ -9,7 +9,7 @@ use lib.Seq.{getD-take, getD-drop, length-take-le}
 use lib.Bits.{bitXor, xor-zero-r}
 use Rattle.keccak.specs.Keccak.{lane, row}
 use Rattle.shake.specs.Shake.{word, xored}
-use Rattle.shake.specs.Steps.{block, xoredRow}
+use Rattle.shake.specs.Inner.{block, xoredRow}
 
 module _ (m : List ℕ) (i : ℕ) where
   byte-in : (k : ℕ) → k < 136 → getD (block m i) k 0 ≡ getD m (i + k) 0

@@ -1,4 +1,4 @@
--- The padding bytes of Shake are the bits of FIPS 202: the suffix 1111 (6.2) and then pad10*1 (5.1, Algorithm 9).
+-- The padding bytes of Shake are the bits of SPEC 4.9: the suffix 1111 (FIPS 202, 6.2) and then pad10*1 (FIPS 202, 5.1).
 use Prim.Native.Nat.{ℕ, zero, suc, _+_, _*_, _/_, _%_, _-_}
 use mathlib.Core.Path.{_≡_, refl}
 use mathlib.Core.Bool.{Bool, true, false, _&&_}
@@ -12,7 +12,7 @@ abbrev lowBits : ℕ → ℕ → List ℕ
 lowBits zero v = []
 lowBits (suc n) v = v % 2 ∷ lowBits n (v / 2)
 
--- a string of bytes in bits (B.1)
+-- a string of bytes in bits (FIPS 202, B.1)
 abbrev bits : List ℕ → List ℕ
 bits [] = []
 bits (b ∷ p) = lowBits 8 b ++ bits p

@@ -6,7 +6,7 @@ ghost use mathlib.Core.List.{_++_};
 ghost use Prim.Native.Nat.{_+_, _-_, _/_, _%_, _<_, _≤_};
 ghost use lib.ListN.{length, take, getD};
 ghost use Rattle.shake.specs.Shake.{word, xored, absorbed, pad};
-ghost use Rattle.shake.specs.Steps.{block, xoredRow, Taken};
+ghost use Rattle.shake.specs.Inner.{block, xoredRow, Taken};
 
 // The byte at `i` of `m`, as part of a lane.
 fn byte(m: &[u8], i: usize) -> u64

@@ -1,15 +1,15 @@
-// SHAKE256 of FIPS 202 over a message in three parts.
+// SHAKE256 of FIPS 202 (SPEC 4.9 to 4.11) over a message in three parts.
 ghost use mathlib.Core.Path.{_≡_};
 ghost use mathlib.Core.List.{_++_};
 ghost use Prim.Native.Nat.{_+_, _≤_};
 ghost use lib.ListN.{length};
 ghost use Rattle.shake.specs.Shake.{shake256};
-ghost use Rattle.shake.specs.Steps.{put};
+ghost use Rattle.shake.specs.Inner.{put};
 
 mod absorb;
 mod squeeze;
 
-// The rate of SHAKE256 in bytes (6.2), and the place of a block's last byte.
+// The rate of SHAKE256 in bytes (SPEC 4.9), and the place of a block's last byte.
 const RATE: usize = 136;
 
 const LAST: usize = RATE - 1;
@@ -26,7 +26,7 @@ fn copy(dst: &mut [u8], at: usize, src: &[u8])
     }
 }
 
-// Fills `out` with SHAKE256 of the three parts, taken as joined.
+// SPEC 4.11: fills `out` with SHAKE256 of the three parts, taken as joined.
 pub fn shake256(first: &[u8], second: &[u8], third: &[u8], out: &mut [u8])
     ensures { λ _. ⌜ now (out .exit) ≡ shake256 (now (first .entry) ++ (now (second .entry) ++ now (third .entry))) (length (now (out .entry))) ⌝ }
 {

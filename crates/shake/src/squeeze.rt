@@ -4,7 +4,7 @@ ghost use mathlib.Core.Path.{_≡_};
 ghost use Prim.Native.Nat.{_+_, _/_, _≤_};
 ghost use lib.ListN.{length, take};
 ghost use Rattle.shake.specs.Shake.{bytes, squeezed};
-ghost use Rattle.shake.specs.Steps.{put, laneBytes, rowBytes};
+ghost use Rattle.shake.specs.Inner.{put, laneBytes, rowBytes};
 
 // The eight bytes of a lane, lowest first, at `i` of `out`. The compiler writes them at once.
 fn store(out: &mut [u8], i: usize, v: u64)

@@ -1,2 +1,2 @@
--- What signing reads and writes around its tries.
-pub mod Calls
+-- What signing reads around its tries.
+pub mod Inner

@@ -5,12 +5,12 @@ use native.Mathlib.Omega.{arith}
 use mathlib.Core.List.{List}
 use Rattle.outcome.proofs.One.{One}
 use Rattle.sets.specs.Set.{Set}
-use Rattle.sets.proofs.Results.{done-inv}
+use Rattle.answers.proofs.Results.{done-inv}
 use Rattle.scheme.specs.Try.{Signer}
 use Rattle.scheme.specs.Sign.{Signed}
 use Rattle.tries.specs.declared.Tried.{Tried}
 use Rattle.tries.specs.declared.Tried.the-variants.{Passed, Spent}
-use Rattle.tries.specs.Stages.{Found}
+use Rattle.tries.specs.Inner.{Found}
 use Rattle.tries.proofs.first_passing.Reads as first-passing
 use Rattle.tries.proofs.first_passing.Kinds as first-passing-kinds
 

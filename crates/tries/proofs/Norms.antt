@@ -17,13 +17,13 @@ use Rattle.residues.proofs.Remainders.{residue-again}
 use Rattle.rounding.specs.Rounding.{norm, lowBits}
 use Rattle.rounding.proofs.Norms.{norm-each}
 use Rattle.rounding.proofs.Congruent.{q-pos, q-wide, low-cong, low-le}
-use Rattle.ring.specs.Ring.{at}
-use Rattle.ring.specs.Profile.{trinomial}
+use Rattle.ring.specs.Ring.{at as coefficient}
 use Rattle.ring.proofs.Lists.{length-tab, at-tab}
 use Rattle.ring.proofs.Signed.{at-reduced}
-use Rattle.slots.proofs.Memory.{at-slot}
-use Rattle.memory.specs.Holds.{Holds}
-use Rattle.memory.proofs.Holding.{residues-of}
+use Rattle.workspace.specs.declared.Place.{Place}
+use Rattle.workspace.specs.Inner.{at, Holds}
+use Rattle.workspace.proofs.Memory.{at-element}
+use Rattle.workspace.proofs.Holding.{residues-of}
 use Rattle.scheme.specs.Elements.{centring, lows}
 
 norm-below : (q b : ℕ) (xs : List ℤ) → 0 < b → ((k : ℕ) → k < length xs → magnitude q (getD xs k (pos 0)) < b) → norm q xs < b
@@ -39,57 +39,59 @@ bound-more f b i h l t m = go (ℕ-discrete t i)
     go (yes e) = subst (λ (x : ℕ). f x < b) (sym e) l
     go (no d) = h t (omega arith)
 
-module _ (p : Set) (T : Trinomial p) {k : ℕ} {a : List ℤ} {work : List ℕ} (H : Holds p k a work) where
+-- `start` is where place k stands, as the code has found it
+module _ (p : Set) (T : Trinomial p) {k : Place} {a : List ℤ} {work : List ℕ} (start : ℕ) (s : start ≡ at k * p .n) (H : Holds p k a work) where
   hq : 0 < p .q
   hq = q-pos p (T .good)
 
-  at-place : (i : ℕ) → i < p .n → getD work (k * p .n + i) 0 ≡ residue (p .q) (at a i)
+  at-place : (i : ℕ) → i < p .n → getD work (start + i) 0 ≡ residue (p .q) (coefficient a i)
   at-place i l =
-      sym (at-slot (p .n) k i work l) ∙ ap (λ (xs : List ℕ). getD xs i 0) (H .here) ∙ at-reduced p T a i (omega (arith, H .long))
+      ap (λ (m : ℕ). getD work (m + i) 0) s ∙ sym (at-element (p .n) (at k) i work l) ∙ ap (λ (xs : List ℕ). getD xs i 0) (H .here) ∙
+      at-reduced p T a i (omega (arith, H .long))
 
-  pub below-place : (i : ℕ) → i < p .n → getD work (k * p .n + i) 0 < p .q
-  below-place i l = subst (λ (x : ℕ). x < p .q) (at-slot (p .n) k i work l) (residues-of p T H .each i)
+  pub below-place : (i : ℕ) → i < p .n → getD work (start + i) 0 < p .q
+  below-place i l = rw (s, ← at-element (p .n) (at k) i work l) (residues-of p (T .good) H .each i)
 
   -- ---- by magnitude
-  magnitude-at : (i : ℕ) → i < p .n → magnitude (p .q) (at a i) ≡ natAbs (signed (p .q) (getD work (k * p .n + i) 0))
+  magnitude-at : (i : ℕ) → i < p .n → magnitude (p .q) (coefficient a i) ≡ natAbs (signed (p .q) (getD work (start + i) 0))
   unfolding centred
   magnitude-at i l = ap (λ (x : ℕ). natAbs (signed (p .q) x)) (sym (at-place i l))
 
-  pub norm-large : (b i : ℕ) → i < p .n → b ≤ natAbs (signed (p .q) (getD work (k * p .n + i) 0)) → leb b (norm (p .q) a) ≡ true
+  pub norm-large : (b i : ℕ) → i < p .n → b ≤ natAbs (signed (p .q) (getD work (start + i) 0)) → leb b (norm (p .q) a) ≡ true
   norm-large b i l h = le-leb b (norm (p .q) a) (omega (arith, norm-each (p .q) a i (omega (arith, H .long)), magnitude-at i l))
 
-  pub norm-small : (b : ℕ) → 0 < b → ((i : ℕ) → i < p .n → natAbs (signed (p .q) (getD work (k * p .n + i) 0)) < b) → norm (p .q) a < b
-  norm-small b s h =
-      norm-below (p .q) b a s (λ i l. let m : i < p .n = omega (arith, H .long) in subst (λ (x : ℕ). x < b) (sym (magnitude-at i m)) (h i m))
+  pub norm-small : (b : ℕ) → 0 < b → ((i : ℕ) → i < p .n → natAbs (signed (p .q) (getD work (start + i) 0)) < b) → norm (p .q) a < b
+  norm-small b m h =
+      norm-below (p .q) b a m (λ i l. let v : i < p .n = omega (arith, H .long) in subst (λ (x : ℕ). x < b) (sym (magnitude-at i v)) (h i v))
 
   -- ---- centred: the same
-  magnitude-centred : (i : ℕ) → i < p .n → magnitude (p .q) (at (centring (trinomial p) a) i) ≡ natAbs (signed (p .q) (getD work (k * p .n + i) 0))
+  magnitude-centred : (i : ℕ) → i < p .n → magnitude (p .q) (coefficient (centring p a) i) ≡ natAbs (signed (p .q) (getD work (start + i) 0))
   magnitude-centred i l =
-      ap (magnitude (p .q)) (at-tab (pos 0) (p .n) (λ t. centred (p .q) (at a t)) i l) ∙ ap natAbs (centred-again (p .q) hq (at a i)) ∙ magnitude-at i l
+      ap (magnitude (p .q)) (at-tab (pos 0) (p .n) (λ t. centred (p .q) (coefficient a t)) i l) ∙ ap natAbs (centred-again (p .q) hq (coefficient a i)) ∙ magnitude-at i l
 
-  pub centring-large : (b i : ℕ) → i < p .n → b ≤ natAbs (signed (p .q) (getD work (k * p .n + i) 0)) → leb b (norm (p .q) (centring (trinomial p) a)) ≡ true
+  pub centring-large : (b i : ℕ) → i < p .n → b ≤ natAbs (signed (p .q) (getD work (start + i) 0)) → leb b (norm (p .q) (centring p a)) ≡ true
   centring-large b i l h =
-      le-leb b (norm (p .q) (centring (trinomial p) a))
-      (omega (arith, norm-each (p .q) (centring (trinomial p) a) i (omega (arith, length-tab (p .n) (λ t. centred (p .q) (at a t)))), magnitude-centred i l))
+      le-leb b (norm (p .q) (centring p a))
+      (omega (arith, norm-each (p .q) (centring p a) i (omega (arith, length-tab (p .n) (λ t. centred (p .q) (coefficient a t)))), magnitude-centred i l))
 
-  pub centring-small : (b : ℕ) → 0 < b → ((i : ℕ) → i < p .n → natAbs (signed (p .q) (getD work (k * p .n + i) 0)) < b) → norm (p .q) (centring (trinomial p) a) < b
-  centring-small b s h =
-      norm-below (p .q) b (centring (trinomial p) a) s
-      (λ i l. let m : i < p .n = omega (arith, length-tab (p .n) (λ t. centred (p .q) (at a t))) in subst (λ (x : ℕ). x < b) (sym (magnitude-centred i m)) (h i m))
+  pub centring-small : (b : ℕ) → 0 < b → ((i : ℕ) → i < p .n → natAbs (signed (p .q) (getD work (start + i) 0)) < b) → norm (p .q) (centring p a) < b
+  centring-small b m h =
+      norm-below (p .q) b (centring p a) m
+      (λ i l. let v : i < p .n = omega (arith, length-tab (p .n) (λ t. centred (p .q) (coefficient a t))) in subst (λ (x : ℕ). x < b) (sym (magnitude-centred i v)) (h i v))
 
   -- ---- the low bits
-  magnitude-low : (i : ℕ) → i < p .n → magnitude (p .q) (at (lows (trinomial p) a) i) ≡ natAbs (lowBits p (pos (getD work (k * p .n + i) 0)))
+  magnitude-low : (i : ℕ) → i < p .n → magnitude (p .q) (coefficient (lows p a) i) ≡ natAbs (lowBits p (pos (getD work (start + i) 0)))
   magnitude-low i l =
-      ap (magnitude (p .q)) (at-tab (pos 0) (p .n) (λ t. lowBits p (at a t)) i l) ∙
-      ap natAbs (centred-small (p .q) hq (lowBits p (at a i)) (omega (arith, low-le p (T .good) (at a i), q-wide p (T .good)))) ∙
-      ap natAbs (low-cong p (T .good) (at a i) (pos (getD work (k * p .n + i) 0)) (sym (ap (λ (x : ℕ). residue (p .q) (pos x)) (at-place i l) ∙ residue-again (p .q) hq (at a i))))
+      ap (magnitude (p .q)) (at-tab (pos 0) (p .n) (λ t. lowBits p (coefficient a t)) i l) ∙
+      ap natAbs (centred-small (p .q) hq (lowBits p (coefficient a i)) (omega (arith, low-le p (T .good) (coefficient a i), q-wide p (T .good)))) ∙
+      ap natAbs (low-cong p (T .good) (coefficient a i) (pos (getD work (start + i) 0)) (sym (ap (λ (x : ℕ). residue (p .q) (pos x)) (at-place i l) ∙ residue-again (p .q) hq (coefficient a i))))
 
-  pub low-large : (b i : ℕ) → i < p .n → b ≤ natAbs (lowBits p (pos (getD work (k * p .n + i) 0))) → leb b (norm (p .q) (lows (trinomial p) a)) ≡ true
+  pub low-large : (b i : ℕ) → i < p .n → b ≤ natAbs (lowBits p (pos (getD work (start + i) 0))) → leb b (norm (p .q) (lows p a)) ≡ true
   low-large b i l h =
-      le-leb b (norm (p .q) (lows (trinomial p) a))
-      (omega (arith, norm-each (p .q) (lows (trinomial p) a) i (omega (arith, length-tab (p .n) (λ t. lowBits p (at a t)))), magnitude-low i l))
+      le-leb b (norm (p .q) (lows p a))
+      (omega (arith, norm-each (p .q) (lows p a) i (omega (arith, length-tab (p .n) (λ t. lowBits p (coefficient a t)))), magnitude-low i l))
 
-  pub low-small : (b : ℕ) → 0 < b → ((i : ℕ) → i < p .n → natAbs (lowBits p (pos (getD work (k * p .n + i) 0))) < b) → norm (p .q) (lows (trinomial p) a) < b
-  low-small b s h =
-      norm-below (p .q) b (lows (trinomial p) a) s
-      (λ i l. let m : i < p .n = omega (arith, length-tab (p .n) (λ t. lowBits p (at a t))) in subst (λ (x : ℕ). x < b) (sym (magnitude-low i m)) (h i m))
+  pub low-small : (b : ℕ) → 0 < b → ((i : ℕ) → i < p .n → natAbs (lowBits p (pos (getD work (start + i) 0))) < b) → norm (p .q) (lows p a) < b
+  low-small b m h =
+      norm-below (p .q) b (lows p a) m
+      (λ i l. let v : i < p .n = omega (arith, length-tab (p .n) (λ t. lowBits p (coefficient a t))) in subst (λ (x : ℕ). x < b) (sym (magnitude-low i v)) (h i v))

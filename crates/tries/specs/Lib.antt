@@ -1,2 +1,2 @@
--- What signing's memory holds from stage to stage.
-pub mod Stages
+-- What the memory holds from stage to stage of a try.
+pub mod Inner

@@ -1,5 +1,8 @@
 // Bytes: copied, patched, compared and computed.
 
+// Bytes of a SHAKE256 that stands for more bytes than a record holds.
+const DIGEST: usize = 32;
+
 // Copies as much as both hold.
 pub(crate) fn copy(from: &[u8], to: &mut [u8]) {
     let mut i: usize = 0;
@@ -36,10 +39,10 @@ pub(crate) fn untouched(s: &[u8]) -> bool {
     true
 }
 
-// Whether two buffers, one after the other, are as expected: whole, or by the SHAKE256 of both, 32 bytes.
+// Whether two buffers, one after the other, are as expected: whole, or by the SHAKE256 of both.
 pub(crate) fn agree(expected: &[u8], first: &[u8], second: &[u8]) -> bool {
-    if expected.len() == 32 {
-        let mut digest = [0u8; 32];
+    if expected.len() == DIGEST {
+        let mut digest = [0u8; DIGEST];
         shake::shake256(first, second, b"", &mut digest);
         return check::same(&digest, expected);
     }

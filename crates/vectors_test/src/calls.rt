@@ -4,24 +4,20 @@ use crate::bytes::copy;
 use crate::bytes::untouched;
 use crate::record::size;
 use crate::record::word;
-use sets::refusal::Report;
-
-const PUBLIC_KEY: usize = 1760;
-
-const SECRET_KEY: usize = 2400;
-
-const SIGNATURE: usize = 2912;
-
-const SEED: usize = 32;
+use answers::Report;
+use sets::limits::SEED;
+use sets::set1::Set1;
 
 // A buffer may be lent 8 bytes longer than it has to be.
-const PUBLIC_ROOM: usize = 1768;
+const MORE: usize = 8;
 
-const SECRET_ROOM: usize = 2408;
+pub(crate) const PUBLIC_ROOM: usize = Set1::PUBLIC_KEY + MORE;
 
-const SIGNATURE_ROOM: usize = 2920;
+pub(crate) const SECRET_ROOM: usize = Set1::SECRET_KEY + MORE;
 
-const SEED_ROOM: usize = 40;
+pub(crate) const SIGNATURE_ROOM: usize = Set1::SIGNATURE + MORE;
+
+const SEED_ROOM: usize = SEED + MORE;
 
 // Whether an answer is the record's.
 fn answer_is(h: &[u8], told: Report) -> bool {
@@ -46,7 +42,7 @@ fn made(
     public: &mut [u8],
     secret: &mut [u8],
 ) -> bool {
-    let told = level1::make_keys(zeta, prime, public, secret).report();
+    let told = set1::make_keys(zeta, prime, public, secret).report();
     if !answer_is(h, told) {
         return false;
     }
@@ -115,15 +111,15 @@ pub(crate) fn make_keys(h: &[u8], body: &[u8], public: &mut [u8], secret: &mut [
         return false;
     }
     if word(h, 4) == 0 {
-        copy(&new_public[0..PUBLIC_KEY], public);
-        copy(&new_secret[0..SECRET_KEY], secret);
+        copy(&new_public[0..Set1::PUBLIC_KEY], public);
+        copy(&new_secret[0..Set1::SECRET_KEY], secret);
     }
     true
 }
 
 // Signing, with what is lent.
 fn signed(h: &[u8], expected: &[u8], key: &[u8], message: &[u8], out: &mut [u8]) -> bool {
-    let told = level1::sign(key, message, word(h, 40), out).report();
+    let told = set1::sign(key, message, word(h, 40), out).report();
     if !answer_is(h, told) {
         return false;
     }
@@ -169,7 +165,7 @@ pub(crate) fn sign(
         return false;
     }
     if word(h, 4) == 0 {
-        copy(&out[0..SIGNATURE], signature);
+        copy(&out[0..Set1::SIGNATURE], signature);
     }
     true
 }
@@ -190,7 +186,7 @@ pub(crate) fn check(h: &[u8], public: &[u8], signature: &[u8], message: &mut [u8
     crate::bytes::message(word(h, 36), &mut message[0..third]);
     answer_is(
         h,
-        level1::check(&public[0..first], &signature[0..second], &message[0..third]).report(),
+        set1::check(&public[0..first], &signature[0..second], &message[0..third]).report(),
     )
 }
 

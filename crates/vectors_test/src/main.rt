@@ -4,6 +4,7 @@ mod calls;
 mod record;
 
 use libc::STDOUT_FILENO;
+use sets::limits;
 ghost use Prim.Native.Nat.{_≤_};
 
 const HEADER: usize = 48;
@@ -11,8 +12,8 @@ const HEADER: usize = 48;
 // The most bytes of a record behind its header.
 const BODY: usize = 4224;
 
-// The longest message.
-const MESSAGE: usize = 32776;
+// The longest message, and 8 bytes more.
+const MESSAGE: usize = limits::MESSAGE_MAX + 8;
 
 // More records than the file has.
 const MOST: u64 = 100000;
@@ -141,9 +142,9 @@ fn main() {
     let mut h = [0u8; HEADER];
     let mut body = [0u8; BODY];
     let mut message = [0u8; MESSAGE];
-    let mut public = [0u8; 1768];
-    let mut secret = [0u8; 2408];
-    let mut signature = [0u8; 2920];
+    let mut public = [0u8; calls::PUBLIC_ROOM];
+    let mut secret = [0u8; calls::SECRET_ROOM];
+    let mut signature = [0u8; calls::SIGNATURE_ROOM];
     records(
         fd,
         &mut h,

@@ -1,13 +1,12 @@
--- 01, "Half steps and edges, worked": the cases marked P, over the definitions of trinomial level 1.
+-- The worked cases of SPEC 13, over the definitions of set 1.
 use mathlib.Core.Path.{_≡_}
-use mathlib.Core.List.{List}
 use Prim.Native.Nat.{ℕ}
 use lib.IntN.{ℤ, pos, negℤ, _-ℤ_}
-use Rattle.sets.specs.Set.{tri1}
+use Rattle.sets.specs.Set.{set1}
 use Rattle.residues.specs.Remainder.{residue}
 use Rattle.rounding.specs.Rounding.{decompose, makeHint, useHint, power2Round}
 use Rattle.ring.specs.Ring.{mono, tab}
-use Rattle.ring.specs.Profile.{set1, mul}
+use Rattle.ring.specs.Profile.{mul}
 
 -- -a
 abbrev minus : ℕ → ℤ
@@ -15,16 +14,16 @@ minus a = negℤ (pos a)
 
 -- r splits into high and low bits, by Decompose and by Power2Round
 abbrev Decompose : ℕ → ℕ → ℤ → Type 0
-Decompose r high low = decompose tri1 (pos r) ≡ record { high = high; low = low }
+Decompose r high low = decompose set1 (pos r) ≡ record { high = high; low = low }
 
 abbrev Power2Round : ℕ → ℕ → ℤ → Type 0
-Power2Round r high low = power2Round tri1 (pos r) ≡ record { high = high; low = low }
+Power2Round r high low = power2Round set1 (pos r) ≡ record { high = high; low = low }
 
 abbrev UseHint : ℕ → ℕ → ℕ → Type 0
-UseHint h r high = useHint tri1 h (pos r) ≡ high
+UseHint h r high = useHint set1 h (pos r) ≡ high
 
 abbrev MakeHint : ℕ → ℕ → ℕ → Type 0
-MakeHint z r h = makeHint tri1 (pos z) (pos r) ≡ h
+MakeHint z r h = makeHint set1 (pos z) (pos r) ≡ h
 
 -- X^i · X^j is the element whose coefficients are f, mod q
 abbrev Product : ℕ → ℕ → (ℕ → ℤ) → Type 0

@@ -1,1 +1,1 @@
-// The worked cases of document 01 that are marked P, as one table of theorems: specs/Table.antt states it, proofs/Worked.antt proves it.
+// The worked cases of SPEC 13, as one table of theorems: specs/Table.antt states it, proofs/Worked.antt proves it.

@@ -48,7 +48,8 @@ loop-again c =
       l .inv .0,
       omega arith,
       length-set (l .dst) (l .i) (getD s (l .i) (pos 0)) ∙ l .inv .2,
-      ap (λ (xs : List ℤ). set xs (l .i) (getD s (l .i) (pos 0))) (l .inv .3) ∙ copied-more (pos 0) s (c .before .before .before .before .args .dst .now) (l .i) (omega arith) (omega arith),
+      ap (λ (xs : List ℤ). set xs (l .i) (getD s (l .i) (pos 0))) (l .inv .3) ∙
+          copied-more (pos 0) s (c .before .before .before .before .args .dst .now) (l .i) (omega arith) (omega arith),
     )
 
 same-length : tie.Need-same-length Inv-loop μ-loop

@@ -1,27 +1,47 @@
-use Rattle.checking.specs.Inputs.{inputs}
-use Rattle.checking.proofs.Loading.{loads-refused, loads-done}
-use Rattle.checking.proofs.Order.{answers-refused, wrong-public, wrong-signature, long-message, refused-inputs, with-inputs}
-use Rattle.shake.specs.Shake.{shake256}
-use mathlib.Core.Path.{sym, _∙_}
+mod Places
+use mathlib.Core.Path.{refl, sym, _∙_}
 use native.Mathlib.Omega.{arith}
+use Rattle.shake.specs.Shake.{shake256}
+use Rattle.checking.proofs.Order.{answers-refused, wrong-public, wrong-signature, long-message, refused-inputs, with-inputs}
 use borrow.Author.Needs.{needs}
 use Rattle.checking.proofs.check.Statement.{statement}
 use Rattle.checking.proofs.check.Tie as tie
+use Rattle.checking.proofs.compare.Reads as compare-reads
+use Rattle.checking.proofs.load.Reads as load-reads
+use Rattle.packing.proofs.parts.Whole.size.Reads as size-reads
+use Places.{public-wrong, signature-wrong, message-long, load-refused, after-compare-arg, done}
 
-public-size-requires : tie.Need-public-size-requires
-public-size-requires c κs = search needs
+-- place public-wrong = Then1
+-- place signature-wrong = Then2
+-- place message-long = Then3
+-- place checked = Else3
+-- place loaded = After-load
+-- place load-refused = After-known-told
+-- place load-told = After-found
+-- place load-done = After-enum-told
+-- place answered = After-compare
+-- place done = After-slice-known3
+
+size-requires : tie.Need-size-requires
+size-requires c κs = search needs
 
 returns : tie.Need-returns
-returns c = answers-refused _ _ (wrong-public (c .before .before .before .before .before .before .args .p) shake256 (c .before .before .before .before .before .before .args .public-key .now) (c .before .before .before .before .before .before .args .signature .now) (c .before .before .before .before .before .before .args .message .now) (λ e. c .if1 .taken (e ∙ sym (c .before .public-size .ensures))))
+returns c =
+    let at = public-wrong c in
+    answers-refused _ _ (wrong-public at.start.args.p shake256 at.start.args.public-key.now at.start.args.signature.now at.start.args.message.now (λ e. c .if1 .taken (e ∙ sym at.after-size.size.ensures)))
 
-signature-size-requires : tie.Need-signature-size-requires
-signature-size-requires c κs = search needs
+size-requires-2 : tie.Need-size-requires-2
+size-requires-2 c κs = search needs
 
 returns-2 : tie.Need-returns-2
-returns-2 c = answers-refused _ _ (wrong-signature (c .before .before .before .before .before .before .before .before .args .p) shake256 (c .before .before .before .before .before .before .before .before .args .public-key .now) (c .before .before .before .before .before .before .before .before .args .signature .now) (c .before .before .before .before .before .before .before .before .args .message .now) (c .before .before .if1 .left ∙ c .before .before .before .public-size .ensures) (λ e. c .if2 .taken (e ∙ sym (c .before .signature-size .ensures))))
+returns-2 c =
+    let at = signature-wrong c in
+    answers-refused _ _ (wrong-signature at.start.args.p shake256 at.start.args.public-key.now at.start.args.signature.now at.start.args.message.now (at.else1.if1.left ∙ at.after-size.size.ensures) (λ e. c .if2 .taken (e ∙ sym at.after-size2.size2.ensures)))
 
 returns-3 : tie.Need-returns-3
-returns-3 c = answers-refused _ _ (long-message (c .before .before .before .before .before .before .before .before .before .args .p) shake256 (c .before .before .before .before .before .before .before .before .before .args .public-key .now) (c .before .before .before .before .before .before .before .before .before .args .signature .now) (c .before .before .before .before .before .before .before .before .before .args .message .now) (c .before .before .before .if1 .left ∙ c .before .before .before .before .public-size .ensures) (c .before .if2 .left ∙ c .before .before .signature-size .ensures) (c .if3 .taken))
+returns-3 c =
+    let at = message-long c in
+    answers-refused _ _ (long-message at.start.args.p shake256 at.start.args.public-key.now at.start.args.signature.now at.start.args.message.now (at.else1.if1.left ∙ at.after-size.size.ensures) (at.else2.if2.left ∙ at.after-size2.size2.ensures) (c .if3 .taken))
 
 load-requires : tie.Need-load-requires
 load-requires c κs = search needs
@@ -33,27 +53,41 @@ same-length : tie.Need-same-length
 same-length c = search needs
 
 returns-4 : tie.Need-returns-4
-returns-4 c = answers-refused _ _ (refused-inputs (c .before .before .before .before .before .before .before .before .before .before .before .before .before .before .before .before .args .p) shake256 (c .before .before .before .before .before .before .before .before .before .before .before .before .before .before .before .before .args .public-key .now) (c .before .before .before .before .before .before .before .before .before .before .before .before .before .before .before .before .args .signature .now) (c .before .before .before .before .before .before .before .before .before .before .before .before .before .before .before .before .args .message .now) (c .before .before .before .before .before .before .before .before .before .before .if1 .left ∙ c .before .before .before .before .before .before .before .before .before .before .before .public-size .ensures) (c .before .before .before .before .before .before .before .before .if2 .left ∙ c .before .before .before .before .before .before .before .before .before .signature-size .ensures) (c .before .before .before .before .before .before .before .if3 .left) _ (loads-refused (c .before .before .before .before .before .before .before .before .before .before .before .before .before .before .before .before .args .p) (inputs (c .before .before .before .before .before .before .before .before .before .before .before .before .before .before .before .before .args .p) shake256 (c .before .before .before .before .before .before .before .before .before .before .before .before .before .before .before .before .args .public-key .now) (c .before .before .before .before .before .before .before .before .before .before .before .before .before .before .before .before .args .signature .now)) (c .before .before .before .before .before .load .last .1 .1 .1 .0) (c .before .before .before .before .before .load .result) _ (c .before .found .given .1) (c .before .before .before .before .before .load .ensures)))
+returns-4 c =
+    let at = load-refused c in
+    answers-refused _ _
+    (refused-inputs at.start.args.p shake256 at.start.args.public-key.now at.start.args.signature.now at.start.args.message.now
+    (at.else1.if1.left ∙ at.after-size.size.ensures) (at.else2.if2.left ∙ at.after-size2.size2.ensures) (omega (arith, at.checked.if3.left)) _ (at.loaded.load.ensures .ill _ at.load-told.found.given.1))
 
 enum-told : tie.Need-enum-told
 enum-told c = search needs
 
 compare-requires : tie.Need-compare-requires
-compare-requires c κs = let R = loads-done (c .before .before .before .before .before .before .before .before .before .before .before .before .before .before .before .before .args .p) (inputs (c .before .before .before .before .before .before .before .before .before .before .before .before .before .before .before .before .args .p) shake256 (c .before .before .before .before .before .before .before .before .before .before .before .before .before .before .before .before .args .public-key .now) (c .before .before .before .before .before .before .before .before .before .before .before .before .before .before .before .before .args .signature .now)) (c .before .before .before .before .before .load .last .1 .1 .1 .0) (c .before .before .before .before .before .load .result) (c .before .enum-told .given .1) (c .before .before .before .before .before .load .ensures) in (c .before .before .before .before .before .before .before .before .before .before .before .before .before .before .before .before .pre .0, ((omega (arith, c .before .before .before .before .before .before .before .before .before .before .before .before .before .before .before .before .pre .1, c .before .before .before .before .before .load .kept .1 .1 .1 .0), (c .before .before .before .before .before .before .before .before .if2 .left ∙ c .before .before .before .before .before .before .before .before .before .signature-size .ensures)), (R .0, R .2)))
+compare-requires c κs =
+    let at = after-compare-arg c in
+    let i = at.loaded.load.ensures .well at.load-done.enum-told.given.1 in (
+      (at.start.pre.0, omega (arith, at.start.pre.1, at.loaded.load.kept.1.1.1.0)),
+      (at.else2.if2.left ∙ at.after-size2.size2.ensures, (i .0, i .2 .1)),
+    )
 
 same-length-2 : tie.Need-same-length-2
 same-length-2 c = search needs
 
 returns-5 : tie.Need-returns-5
-returns-5 c = let R = loads-done (c .before .before .before .before .before .before .before .before .before .before .before .before .before .before .before .before .before .before .before .args .p) (inputs (c .before .before .before .before .before .before .before .before .before .before .before .before .before .before .before .before .before .before .before .args .p) shake256 (c .before .before .before .before .before .before .before .before .before .before .before .before .before .before .before .before .before .before .before .args .public-key .now) (c .before .before .before .before .before .before .before .before .before .before .before .before .before .before .before .before .before .before .before .args .signature .now)) (c .before .before .before .before .before .before .before .before .load .last .1 .1 .1 .0) (c .before .before .before .before .before .before .before .before .load .result) (c .before .before .before .before .enum-told .given .1) (c .before .before .before .before .before .before .before .before .load .ensures) in with-inputs (c .before .before .before .before .before .before .before .before .before .before .before .before .before .before .before .before .before .before .before .args .p) shake256 (c .before .before .before .before .before .before .before .before .before .before .before .before .before .before .before .before .before .before .before .args .public-key .now) (c .before .before .before .before .before .before .before .before .before .before .before .before .before .before .before .before .before .before .before .args .signature .now) (c .before .before .before .before .before .before .before .before .before .before .before .before .before .before .before .before .before .before .before .args .message .now) (c .before .before .before .before .before .before .before .before .before .before .before .before .before .if1 .left ∙ c .before .before .before .before .before .before .before .before .before .before .before .before .before .before .public-size .ensures) (c .before .before .before .before .before .before .before .before .before .before .before .if2 .left ∙ c .before .before .before .before .before .before .before .before .before .before .before .before .signature-size .ensures) (c .before .before .before .before .before .before .before .before .before .before .if3 .left) (R .0) (R .1) (c .before .before .compare .result) (c .before .before .compare .ensures (R .0) (R .2))
+returns-5 c =
+    let at = done c in
+    let i = at.loaded.load.ensures .well at.load-done.enum-told.given.1 in
+    with-inputs at.start.args.p shake256 at.start.args.public-key.now at.start.args.signature.now at.start.args.message.now
+    (at.else1.if1.left ∙ at.after-size.size.ensures) (at.else2.if2.left ∙ at.after-size2.size2.ensures) (omega (arith, at.checked.if3.left)) (i .0) (i .1) _
+    (at.answered.compare.ensures (i .0) (i .2 .0) (i .2 .1))
 
 pub check-spec : {M : Type 1} → statement M
 check-spec =
     tie.close
     (tie.spec
-    public-size-requires
+    size-requires
     returns
-    signature-size-requires
+    size-requires-2
     returns-2
     returns-3
     load-requires

@@ -29,7 +29,9 @@ rem-result c = rw (one-shifted _ (c .before .before .pre .0)) (pow-pos (c .befor
 
 returns : tie.Need-returns
 returns c =
-    rw (one-shifted _ (c .before .before .pre .0), c .window .ensures) (field-in-window (c .before .before .args .s .now) (c .before .before .args .w) (c .before .before .args .w * c .before .before .args .i) (c .before .before .pre .0) (λ k. omega (arith, c .before .shared-slice-known .given k)))
+    rw (one-shifted _ (c .before .before .pre .0), c .window .ensures)
+    (field-in-window (c .before .before .args .s .now) (c .before .before .args .w) (c .before .before .args .w * c .before .before .args .i)
+    (c .before .before .pre .0) (λ k. omega (arith, c .before .shared-slice-known .given k)))
 
 pub code-at-spec : {M : Type 1} → statement M
 code-at-spec =

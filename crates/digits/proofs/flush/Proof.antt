@@ -36,8 +36,13 @@ loop-less c = search needs
 
 loop-again : tie.Need-loop-again Inv-loop μ-loop
 loop-again c =
-    let l = c .before .loop in
-    (length-set (l .out) (l .at) (l .held % 256) ∙ l .inv .0, byte-out (l .out) (l .at) (l .held) (omega arith) ∙ l .inv .1, omega arith, fewer (l .held) (l .bits) (c .loop-test .taken) (l .inv .3), l .inv .4)
+    let l = c .before .loop in (
+      length-set (l .out) (l .at) (l .held % 256) ∙ l .inv .0,
+      byte-out (l .out) (l .at) (l .held) (omega arith) ∙ l .inv .1,
+      omega arith,
+      fewer (l .held) (l .bits) (c .loop-test .taken) (l .inv .3),
+      l .inv .4,
+    )
 
 same-length : tie.Need-same-length Inv-loop μ-loop
 same-length c = search needs

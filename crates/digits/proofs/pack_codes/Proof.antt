@@ -58,7 +58,9 @@ loop-less c = search needs
 loop-again : tie.Need-loop-again Inv-loop μ-loop
 loop-again c =
     let l = c .before .before .before .before .before .before .loop in
-    gathered-more _ _ _ _ _ _ _ (l .inv) (c .before .before .before .before .before .loop-test .taken) _ _ _ (rw (shifted _ _ _ _ _ _ _ (l .inv) (c .before .before .before .before .before .loop-test .taken)) refl) refl refl (c .before .before .flush .ensures) (λ k. omega (arith, c .slice-known2 .given k))
+    gathered-more _ _ _ _ _ _ _ (l .inv) (c .before .before .before .before .before .loop-test .taken) _ _ _
+    (rw (shifted _ _ _ _ _ _ _ (l .inv) (c .before .before .before .before .before .loop-test .taken)) refl) refl refl
+    (c .before .before .flush .ensures) (λ k. omega (arith, c .slice-known2 .given k))
 
 cast-out : tie.Need-cast-out Inv-loop μ-loop
 cast-out c = search needs

@@ -8,7 +8,7 @@ use borrow.Author.Needs.{needs}
 use lib.ListN.{length, getD, drop}
 use lib.Seq.{drop-cons}
 use Rattle.keccak.specs.Keccak.{constants}
-use Rattle.keccak.specs.Complement.{heldRound, flipped}
+use Rattle.keccak.specs.Inner.{heldRound, flipped}
 use Rattle.keccak.proofs.Shape.{lanes-below}
 use Rattle.keccak.proofs.Complement.{heldRounds, keccak-held}
 use Rattle.keccak.proofs.permute.Statement.{statement}
@@ -45,7 +45,8 @@ loop-again c =
     let i = l .i in
     let e = l .inv .0 in
     let first = c .before .before .before .round .ensures ∙ ap (λ (xs : List ℕ). heldRound (getD xs i 0) (l .s)) e in
-    let second = c .round2 .ensures ∙ ap (λ (xs : List ℕ). heldRound (getD xs (i + 1) 0) (c .before .before .before .round .last .1 .1 .0)) e ∙ ap (heldRound (getD constants (i + 1) 0)) first in (
+    let second = c .round2 .ensures ∙ ap (λ (xs : List ℕ). heldRound (getD xs (i + 1) 0) (c .before .before .before .round .last .1 .1 .0)) e ∙
+    ap (heldRound (getD constants (i + 1) 0)) first in (
       e,
       omega arith,
       omega arith,
@@ -60,7 +61,9 @@ returns c =
     let l = c .before .before .loop in
     let e : l .i ≡ 24 = omega arith in
     let all = rw e at (l .inv .5) in
-    c .flip2 .ensures ∙ ap flipped (all ∙ ap (heldRounds constants) (c .before .before .before .flip .ensures)) ∙ keccak-held (c .before .before .before .before .args .a) (lanes-below (c .before .before .before .before .args .a) _ (c .before .before .before .before .good .0))
+    c .flip2 .ensures ∙ ap flipped (all ∙ ap (heldRounds constants) (c .before .before .before .flip .ensures)) ∙
+    keccak-held (c .before .before .before .before .args .a)
+    (lanes-below (c .before .before .before .before .args .a) _ (c .before .before .before .before .good .0))
 
 pub permute-spec : {M : Type 1} → statement M
 permute-spec =

@@ -5,7 +5,7 @@ use mathlib.Core.List.{List, [], _∷_}
 use borrow.Author.Needs.{needs}
 use lib.ListN.{getD}
 use Rattle.keccak.specs.Keccak.{state, row}
-use Rattle.keccak.specs.Complement.{heldLane, heldRound}
+use Rattle.keccak.specs.Inner.{heldLane, heldRound}
 use Rattle.keccak.proofs.Shape.{stored}
 use Rattle.keccak.proofs.round.Statement.{statement}
 use Rattle.keccak.proofs.round.Tie as tie
@@ -19,7 +19,8 @@ unfolding heldRound
 returns c =
     let a = c .before .before .before .before .before .before .args in
     stored (a .out .now) (row (heldLane (a .rc) (again (c .before .before .before .before .before .effect .result)) (a .a .now)))
-    (c .before .before .before .before .row0 .ensures) (c .before .before .before .row1 .ensures) (c .before .before .row2 .ensures) (c .before .row3 .ensures) (c .row4 .ensures) (c .before .before .before .before .before .before .pre) ∙
+    (c .before .before .before .before .row0 .ensures) (c .before .before .before .row1 .ensures) (c .before .before .row2 .ensures)
+    (c .before .row3 .ensures) (c .row4 .ensures) (c .before .before .before .before .before .before .pre) ∙
     ap (λ (d : List ℕ). state (heldLane (a .rc) (again d) (a .a .now))) (c .before .before .before .before .before .effect .ensures)
 
 pub round-spec : {M : Type 1} → statement M

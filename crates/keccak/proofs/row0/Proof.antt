@@ -1,4 +1,5 @@
--- `keccak::row0` meets its contract: the code has the operations of the definition. As for the other rows, no file is needed: this one has a refusal name the fact that fails. Assumes nothing.
+-- `keccak::row0` meets its contract: the code has the operations of the definition. Assumes nothing.
+-- As for the other rows, no file is needed: this one has a refusal name the fact that fails.
 use mathlib.Core.Path.{refl}
 use borrow.Author.Needs.{needs}
 use Rattle.keccak.proofs.row0.Statement.{statement}

@@ -1,32 +1,55 @@
-use lib.ListN.{length}
-use Rattle.keys.proofs.Made.{wrong-zeta, wrong-prime, wrong-public, wrong-secret, all-right}
-use Rattle.sets.proofs.Outcomes.{refusing}
-use Rattle.shake.proofs.Output.{length-shake256}
-use Rattle.shake.specs.Shake.{shake256}
-use Prim.Native.Nat.{ℕ}
+mod Places
+use mathlib.Core.Path.{sym, ap, subst, _∙_}
 use mathlib.Core.List.{List, append-nil}
-use mathlib.Core.Path.{sym, ap, _∙_}
+use Prim.Native.Nat.{ℕ}
+use lib.ListN.{length}
+use Rattle.answers.proofs.Outcomes.{refusing}
+use Rattle.shake.specs.Shake.{shake256}
+use Rattle.shake.proofs.Output.{length-shake256}
+use Rattle.keys.proofs.Checks.{wrong-zeta, wrong-prime, wrong-public, wrong-secret, all-right}
+use Rattle.keys.proofs.Made.{seeds-long}
 use borrow.Author.Needs.{needs}
 use Rattle.keys.proofs.make_keys.Statement.{statement}
 use Rattle.keys.proofs.make_keys.Tie as tie
+use Places.{zeta-wrong, prime-wrong, public-wrong, secret-wrong, after-make-in-arg3, done}
+
+-- place zeta-wrong = Then1
+-- place prime-wrong = Then2
+-- place public-wrong = Then3
+-- place secret-wrong = Then4
+-- place hashed = After-shake256
+-- place made = After-make-in
+-- place done = After-slice-known6
 
 returns : tie.Need-returns
-returns c = refusing _ _ _ (wrong-zeta (c .before .before .before .before .before .before .args .p) (c .before .before .before .before .before .before .args .zeta .now) (c .before .before .before .before .before .before .args .zeta-prime .now) (c .before .before .before .before .before .before .args .public-key .now) (c .before .before .before .before .before .before .args .secret-key .now) (c .if1 .taken))
+returns c =
+    let at = zeta-wrong c in
+    refusing _ _ _ (wrong-zeta at.start.args.p at.start.args.zeta.now at.start.args.zeta-prime.now at.start.args.public-key.now at.start.args.secret-key.now (c .if1 .taken))
 
 returns-2 : tie.Need-returns-2
-returns-2 c = refusing _ _ _ (wrong-prime (c .before .before .before .before .before .before .before .args .p) (c .before .before .before .before .before .before .before .args .zeta .now) (c .before .before .before .before .before .before .before .args .zeta-prime .now) (c .before .before .before .before .before .before .before .args .public-key .now) (c .before .before .before .before .before .before .before .args .secret-key .now) (c .before .if1 .left) (c .if2 .taken))
+returns-2 c =
+    let at = prime-wrong c in
+    refusing _ _ _ (wrong-prime at.start.args.p at.start.args.zeta.now at.start.args.zeta-prime.now at.start.args.public-key.now at.start.args.secret-key.now at.else1.if1.left (c .if2 .taken))
 
-public-size-requires : tie.Need-public-size-requires
-public-size-requires c κs = search needs
+size-requires : tie.Need-size-requires
+size-requires c κs = search needs
 
 returns-3 : tie.Need-returns-3
-returns-3 c = refusing _ _ _ (wrong-public (c .before .before .before .before .before .before .before .before .before .args .p) (c .before .before .before .before .before .before .before .before .before .args .zeta .now) (c .before .before .before .before .before .before .before .before .before .args .zeta-prime .now) (c .before .before .before .before .before .before .before .before .before .args .public-key .now) (c .before .before .before .before .before .before .before .before .before .args .secret-key .now) (c .before .before .before .if1 .left) (c .before .before .if2 .left) (λ e. c .if3 .taken (e ∙ sym (c .before .public-size .ensures))))
+returns-3 c =
+    let at = public-wrong c in
+    refusing _ _ _
+    (wrong-public at.start.args.p at.start.args.zeta.now at.start.args.zeta-prime.now at.start.args.public-key.now at.start.args.secret-key.now at.else1.if1.left at.else2.if2.left
+    (λ e. c .if3 .taken (e ∙ sym at.after-size.size.ensures)))
 
-secret-size-requires : tie.Need-secret-size-requires
-secret-size-requires c κs = search needs
+size-requires-2 : tie.Need-size-requires-2
+size-requires-2 c κs = search needs
 
 returns-4 : tie.Need-returns-4
-returns-4 c = refusing _ _ _ (wrong-secret (c .before .before .before .before .before .before .before .before .before .before .before .args .p) (c .before .before .before .before .before .before .before .before .before .before .before .args .zeta .now) (c .before .before .before .before .before .before .before .before .before .before .before .args .zeta-prime .now) (c .before .before .before .before .before .before .before .before .before .before .before .args .public-key .now) (c .before .before .before .before .before .before .before .before .before .before .before .args .secret-key .now) (c .before .before .before .before .before .if1 .left) (c .before .before .before .before .if2 .left) (c .before .before .if3 .left ∙ c .before .before .before .public-size .ensures) (λ e. c .if4 .taken (e ∙ sym (c .before .secret-size .ensures))))
+returns-4 c =
+    let at = secret-wrong c in
+    refusing _ _ _
+    (wrong-secret at.start.args.p at.start.args.zeta.now at.start.args.zeta-prime.now at.start.args.public-key.now at.start.args.secret-key.now at.else1.if1.left at.else2.if2.left
+    (at.else3.if3.left ∙ at.after-size.size.ensures) (λ e. c .if4 .taken (e ∙ sym at.after-size2.size2.ensures)))
 
 slice-aggregate-shake256 : tie.Need-slice-aggregate-shake256
 slice-aggregate-shake256 c = search needs
@@ -44,7 +67,14 @@ slice-aggregate-make-in : tie.Need-slice-aggregate-make-in
 slice-aggregate-make-in c = search needs
 
 make-in-requires : tie.Need-make-in-requires
-make-in-requires c κs = (c .before .before .before .before .before .before .before .before .before .before .before .before .before .before .before .before .before .before .before .before .pre .0, ((c .before .before .before .before .before .before .before .before .before .before .before .before .before .before .if1 .left, ap length (c .before .before .before .before .before .shake256 .ensures) ∙ length-shake256 _ 96, c .before .before .before .before .before .before .before .before .before .before .before .before .before .before .before .before .before .before .before .before .pre .1), (c .before .before .before .before .before .before .before .before .before .before .before .if3 .left ∙ c .before .before .before .before .before .before .before .before .before .before .before .before .public-size .ensures, c .before .before .before .before .before .before .before .before .before .if4 .left ∙ c .before .before .before .before .before .before .before .before .before .before .secret-size .ensures)))
+make-in-requires c κs =
+    let at = after-make-in-arg3 c in (
+      at.start.pre,
+      (
+        (at.else1.if1.left, ap length at.hashed.shake256.ensures ∙ length-shake256 _ _ ∙ seeds-long),
+        (at.else3.if3.left ∙ at.after-size.size.ensures, at.else4.if4.left ∙ at.after-size2.size2.ensures),
+      ),
+    )
 
 same-length : tie.Need-same-length
 same-length c = search needs
@@ -56,7 +86,12 @@ same-length-3 : tie.Need-same-length-3
 same-length-3 c = search needs
 
 returns-5 : tie.Need-returns-5
-returns-5 c = rw (all-right (c .before .before .before .before .before .before .before .before .before .before .before .before .before .before .before .before .before .before .before .before .before .before .before .before .before .before .before .args .p) (c .before .before .before .before .before .before .before .before .before .before .before .before .before .before .before .before .before .before .before .before .before .before .before .before .before .before .before .args .zeta .now) (c .before .before .before .before .before .before .before .before .before .before .before .before .before .before .before .before .before .before .before .before .before .before .before .before .before .before .before .args .zeta-prime .now) (c .before .before .before .before .before .before .before .before .before .before .before .before .before .before .before .before .before .before .before .before .before .before .before .before .before .before .before .args .public-key .now) (c .before .before .before .before .before .before .before .before .before .before .before .before .before .before .before .before .before .before .before .before .before .before .before .before .before .before .before .args .secret-key .now) (c .before .before .before .before .before .before .before .before .before .before .before .before .before .before .before .before .before .before .before .before .before .if1 .left) (c .before .before .before .before .before .before .before .before .before .before .before .before .before .before .before .before .before .before .before .before .if2 .left) (c .before .before .before .before .before .before .before .before .before .before .before .before .before .before .before .before .before .before .if3 .left ∙ c .before .before .before .before .before .before .before .before .before .before .before .before .before .before .before .before .before .before .before .public-size .ensures) (c .before .before .before .before .before .before .before .before .before .before .before .before .before .before .before .before .if4 .left ∙ c .before .before .before .before .before .before .before .before .before .before .before .before .before .before .before .before .before .secret-size .ensures)) (c .before .before .before .before .before .before .make-in .ensures (c .before .before .before .before .before .before .before .before .before .before .before .before .before .before .before .before .before .before .before .before .before .before .before .before .before .before .before .args .zeta-prime .now) (c .before .before .before .before .before .before .before .before .before .before .before .before .shake256 .ensures ∙ ap (λ (x : List ℕ). shake256 x 96) (append-nil (c .before .before .before .before .before .before .before .before .before .before .before .before .before .before .before .before .before .before .before .before .before .before .before .before .before .before .before .args .zeta-prime .now))))
+returns-5 c =
+    let at = done c in
+    rw
+    (all-right at.start.args.p at.start.args.zeta.now at.start.args.zeta-prime.now at.start.args.public-key.now at.start.args.secret-key.now at.else1.if1.left at.else2.if2.left
+    (at.else3.if3.left ∙ at.after-size.size.ensures) (at.else4.if4.left ∙ at.after-size2.size2.ensures))
+    (rw (at.hashed.shake256.ensures ∙ (λ i. shake256 (append-nil at.start.args.zeta-prime.now i) (seeds-long i))) at at.made.make-in.ensures)
 
 pub make-keys-spec : {M : Type 1} → statement M
 make-keys-spec =
@@ -64,9 +99,9 @@ make-keys-spec =
     (tie.spec
     returns
     returns-2
-    public-size-requires
+    size-requires
     returns-3
-    secret-size-requires
+    size-requires-2
     returns-4
     slice-aggregate-shake256
     slice-aggregate-shake256-2

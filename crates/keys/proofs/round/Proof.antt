@@ -1,33 +1,72 @@
-use Rattle.keys.proofs.Rounding.{rounded, product-residues, s2-residues, t-residues, t-residues-still}
+mod Places
+use native.Mathlib.Omega.{arith}
+use Rattle.workspace.proofs.Holding.{made-residues, residues-kept, room-kept}
+use Rattle.workspace.specs.declared.Place.the-variants as place
+use Rattle.keys.proofs.Rounding.{rounded}
 use borrow.Author.Needs.{needs}
 use Rattle.keys.proofs.round.Statement.{statement}
 use Rattle.keys.proofs.round.Tie as tie
+use Places.{after-multiply-arg, after-combine-arg, after-combine-arg2, after-combine-arg3, done}
+
+-- place multiplied = After-multiply
+-- place added = After-combine
+-- place high = After-combine2
+-- place low = After-combine3
+-- place done = After-slice-known5
 
 multiply-requires : tie.Need-multiply-requires
-multiply-requires c κs = (c .before .before .pre .0, ((c .before .before .pre .1 .1 .1, c .before .before .pre .1 .1 .0), search needs))
+multiply-requires c κs =
+    let at = after-multiply-arg c in
+    let r = at.start.pre.1 in
+    ((at.start.pre.0, r.room), (r.each place.S1 (omega arith), r.each place.A (omega arith)))
 
-add-to-requires : tie.Need-add-to-requires
-add-to-requires c κs = (c .before .before .before .before .before .before .pre .0 .good, ((s2-residues (c .before .before .before .before .before .before .args .p) (c .before .before .before .before .before .before .pre .0) (c .before .before .before .before .before .before .pre .1 .1 .0) (c .before .before .before .before .before .before .pre .1 .1 .1) (c .before .before .before .before .before .before .pre .1 .1 .2) (c .before .before .before .multiply .ensures), product-residues (c .before .before .before .before .before .before .args .p) (c .before .before .before .before .before .before .pre .0) (c .before .before .before .before .before .before .pre .1 .1 .0) (c .before .before .before .before .before .before .pre .1 .1 .1) (c .before .before .before .before .before .before .pre .1 .1 .2) (c .before .before .before .multiply .ensures)), search needs))
+combine-requires : tie.Need-combine-requires
+combine-requires c κs =
+    let at = after-combine-arg c in
+    let g = at.start.pre.0.good in
+    let r = at.start.pre.1 in
+    let m = at.multiplied.multiply.ensures in (
+      (at.start.pre.0, room-kept (m .touched) r.room),
+      (made-residues _ g m (r.each place.S1 (omega arith)) (r.each place.A (omega arith)), residues-kept (m .touched) place.S2 (λ e. omega arith) (r.each place.S2 (omega arith))),
+    )
 
-power-highs-requires : tie.Need-power-highs-requires
-power-highs-requires c κs = (c .before .before .before .before .before .before .before .before .before .before .pre .0 .good, (t-residues (c .before .before .before .before .before .before .before .before .before .before .args .p) (c .before .before .before .before .before .before .before .before .before .before .pre .0) (c .before .before .before .before .before .before .before .before .before .before .pre .1 .1 .0) (c .before .before .before .before .before .before .before .before .before .before .pre .1 .1 .1) (c .before .before .before .before .before .before .before .before .before .before .pre .1 .1 .2) (c .before .before .before .before .before .before .before .multiply .ensures) (c .before .before .before .add-to .ensures), search needs))
+combine-requires-2 : tie.Need-combine-requires-2
+combine-requires-2 c κs =
+    let at = after-combine-arg2 c in
+    let g = at.start.pre.0.good in
+    let r = at.start.pre.1 in
+    let m = at.multiplied.multiply.ensures in
+    let t = made-residues _ g at.added.combine.ensures (made-residues _ g m (r.each place.S1 (omega arith)) (r.each place.A (omega arith)))
+    (residues-kept (m .touched) place.S2 (λ e. omega arith) (r.each place.S2 (omega arith))) in
+    ((at.start.pre.0, room-kept (at.added.combine.ensures .touched) (room-kept (m .touched) r.room)), (t, t))
 
-power-lows-requires : tie.Need-power-lows-requires
-power-lows-requires c κs = (c .before .before .before .before .before .before .before .before .before .before .before .before .before .before .pre .0 .good, (t-residues-still (c .before .before .before .before .before .before .before .before .before .before .before .before .before .before .args .p) (c .before .before .before .before .before .before .before .before .before .before .before .before .before .before .pre .0) (c .before .before .before .before .before .before .before .before .before .before .before .before .before .before .pre .1 .1 .0) (c .before .before .before .before .before .before .before .before .before .before .before .before .before .before .pre .1 .1 .1) (c .before .before .before .before .before .before .before .before .before .before .before .before .before .before .pre .1 .1 .2) (c .before .before .before .before .before .before .before .before .before .before .before .multiply .ensures) (c .before .before .before .before .before .before .before .add-to .ensures) (c .before .before .before .power-highs .ensures), search needs))
+combine-requires-3 : tie.Need-combine-requires-3
+combine-requires-3 c κs =
+    let at = after-combine-arg3 c in
+    let g = at.start.pre.0.good in
+    let r = at.start.pre.1 in
+    let m = at.multiplied.multiply.ensures in
+    let h = at.high.combine2.ensures .touched in
+    let t = residues-kept h place.T (λ e. omega arith)
+    (made-residues _ g at.added.combine.ensures (made-residues _ g m (r.each place.S1 (omega arith)) (r.each place.A (omega arith)))
+    (residues-kept (m .touched) place.S2 (λ e. omega arith) (r.each place.S2 (omega arith)))) in
+    ((at.start.pre.0, room-kept h (room-kept (at.added.combine.ensures .touched) (room-kept (m .touched) r.room))), (t, t))
 
 same-length : tie.Need-same-length
 same-length c = search needs
 
 returns : tie.Need-returns
-returns c = rounded (c .before .before .before .before .before .before .before .before .before .before .before .before .before .before .before .before .before .args .p) (c .before .before .before .before .before .before .before .before .before .before .before .before .before .before .before .before .before .pre .0) (c .before .before .before .before .before .before .before .before .before .before .before .before .before .before .before .before .before .args .work .now) (c .before .before .before .before .before .before .before .before .before .before .before .before .before .before .multiply .last .1 .0) (c .before .before .before .before .before .before .before .before .before .before .before .before .before .before .multiply .ensures) (c .before .before .before .before .before .before .before .before .before .before .add-to .last .1 .0) (c .before .before .before .before .before .before .before .before .before .before .add-to .ensures) (c .before .before .before .before .before .before .power-highs .last .1 .0) (c .before .before .power-lows .last .1 .0) (c .before .before .before .before .before .before .power-highs .ensures) (c .before .before .power-lows .ensures)
+returns c =
+    let at = done c in
+    rounded at.start.args.p _ _ _ _ _ at.multiplied.multiply.ensures at.added.combine.ensures at.high.combine2.ensures at.low.combine3.ensures
 
 pub round-spec : {M : Type 1} → statement M
 round-spec =
     tie.close
     (tie.spec
     multiply-requires
-    add-to-requires
-    power-highs-requires
-    power-lows-requires
+    combine-requires
+    combine-requires-2
+    combine-requires-3
     same-length
     returns)

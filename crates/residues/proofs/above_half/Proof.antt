@@ -2,8 +2,6 @@ use borrow.Author.Tests.{le-leb, lt-leb}
 use Prim.Native.Nat.{_/_}
 use Rattle.residues.proofs.above_half.Statement.{statement}
 use Rattle.residues.proofs.above_half.Tie as tie
-use Rattle.residues.proofs.above_half.Reads as reads
-use Rattle.residues.proofs.above_half.Lts as lts
 
 returns : tie.Need-returns
 returns c = rw (le-leb (c .before .args .x) (c .before .args .q / 2) (c .if1 .taken))

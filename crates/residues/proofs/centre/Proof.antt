@@ -7,10 +7,6 @@ use Rattle.residues.proofs.Centres.{signed-by, taken-most}
 use borrow.Author.Needs.{needs}
 use Rattle.residues.proofs.centre.Statement.{statement}
 use Rattle.residues.proofs.centre.Tie as tie
-use Rattle.residues.proofs.centre.Reads as reads
-use Rattle.residues.proofs.centre.Lts as lts
-use Rattle.residues.proofs.above_half.Reads as above-half-reads
-use Rattle.residues.proofs.difference.Reads as difference-reads
 
 above-half-requires : tie.Need-above-half-requires
 above-half-requires c κs = search needs

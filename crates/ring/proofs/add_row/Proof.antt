@@ -2,7 +2,7 @@ use borrow.Author.Needs.{needs}
 use mathlib.Core.Path.{_≡_, refl}
 use Prim.Native.Nat.{_+_, _-_, _^_, _<_}
 use lib.ListN.{length, getD}
-use Rattle.ring.specs.Engine.{Room, one}
+use Rattle.ring.specs.Inner.{Room, one}
 use Rattle.ring.proofs.Adding.{Adding, small, adding-none, adding-more, adding-all, sum-fits, one-late}
 use native.Mathlib.Omega.{arith}
 use Rattle.ring.proofs.add_row.Statement.{statement}
@@ -45,7 +45,14 @@ times-requires : tie.Need-times-requires Inv-loop μ-loop
 times-requires c κs = let l = c .before .before .before .loop in omega (arith, l .inv .1 .each (l .k + 15))
 
 add-sums : tie.Need-add-sums Inv-loop μ-loop
-add-sums c = let l = c .before .before .before .before .loop in omega (arith, c .times .ensures, small (l .inv .2) (l .inv .1 .each (l .k + 15)), sum-fits _ _ _ _ _ (l .k) (l .sums) (l .inv .1) (l .inv .3))
+add-sums c =
+    let l = c .before .before .before .before .loop in
+    omega (
+      arith,
+      c .times .ensures,
+      small (l .inv .2) (l .inv .1 .each (l .k + 15)),
+      sum-fits _ _ _ _ _ (l .k) (l .sums) (l .inv .1) (l .inv .3),
+    )
 
 mul-sums-2 : tie.Need-mul-sums-2 Inv-loop μ-loop
 mul-sums-2 c = search needs
@@ -61,8 +68,14 @@ loop-less c = search needs
 
 loop-again : tie.Need-loop-again Inv-loop μ-loop
 loop-again c =
-    let l = c .before .before .before .before .loop in
-    (l .inv .0, l .inv .1, l .inv .2, adding-more _ _ _ _ (l .k) (l .sums) _ (omega (arith, l .inv .0, l .inv .1 .wide, l .inv .1 .some)) (l .inv .3) (c .before .before .before .loop-test .taken) (λ j. getD (l .sums) (c .before .before .before .before .before .before .before .args .i + l .k) 0 + c .times .ensures j))
+    let l = c .before .before .before .before .loop in (
+      l .inv .0,
+      l .inv .1,
+      l .inv .2,
+      adding-more _ _ _ _ (l .k) (l .sums) _ (omega (arith, l .inv .0, l .inv .1 .wide, l .inv .1 .some)) (l .inv .3)
+          (c .before .before .before .loop-test .taken)
+          (λ j. getD (l .sums) (c .before .before .before .before .before .before .before .args .i + l .k) 0 + c .times .ensures j),
+    )
 
 same-length : tie.Need-same-length Inv-loop μ-loop
 same-length c = c .before .loop .inv .3 .long

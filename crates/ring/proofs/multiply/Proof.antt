@@ -28,7 +28,10 @@ slice-aggregate-multiply-in-2 c = sym (length-take-le _ _ (omega (arith, c .befo
 
 multiply-in-requires : tie.Need-multiply-in-requires
 multiply-in-requires c κs =
-    (c .before .before .before .before .before .before .before .before .pre .0, (c .before .before .before .before .before .before .before .before .pre .1, (length-take-le _ _ (omega (arith, c .before .before .before .before .before .before .before .before .pre .0 .held)), length-take-le _ _ (omega (arith, c .before .before .before .before .before .before .before .before .pre .0 .held)))))
+    let given = c .before .before .before .before .before .before .before .before .pre in (
+      given .0,
+      (given .1, (length-take-le _ _ (omega (arith, given .0 .held)), length-take-le _ _ (omega (arith, given .0 .held)))),
+    )
 
 same-length : tie.Need-same-length
 same-length c = search needs

@@ -1,7 +1,6 @@
 use borrow.Author.Needs.{needs}
-use mathlib.Core.Path.{sym, _∙_}
 use Prim.Native.Nat.{_-_, _^_, _<_}
-use Rattle.ring.specs.Engine.{Passed}
+use Rattle.ring.specs.Inner.{Passed}
 use Rattle.ring.proofs.Rowing.{passed-none, passed-more}
 use native.Mathlib.Omega.{arith}
 use Rattle.ring.proofs.past_zeros.Statement.{statement}
@@ -29,7 +28,11 @@ loop-less : tie.Need-loop-less Inv-loop μ-loop
 loop-less c = search needs
 
 loop-again : tie.Need-loop-again Inv-loop μ-loop
-loop-again c = (c .before .before .before .loop .inv .0, passed-more _ _ _ _ (c .before .before .before .loop .inv .1) (c .before .before .loop-test .taken) (omega (arith, c .before .coefficient .ensures)))
+loop-again c = (
+  c .before .before .before .loop .inv .0,
+  passed-more _ _ _ _ (c .before .before .before .loop .inv .1)
+      (c .before .before .loop-test .taken) (omega (arith, c .before .coefficient .ensures)),
+)
 
 returns-2 : tie.Need-returns-2 Inv-loop μ-loop
 returns-2 c = c .before .loop .inv .1

@@ -15,7 +15,8 @@ sum-lt : (c : tie.After-wrap) → c .wrap .result < c .before .args .p .q
 sum-lt c = rw (c .wrap .ensures) (mod-lt _ (q-pos (c .before .args .p) (c .before .pre .0)))
 
 -- the high bits of the sum
-sum-is : (c : tie.After-high-of2) → c .high-of2 .result ≡ highBits (c .before .before .before .args .p) (pos (c .before .before .before .args .r) +ℤ pos (c .before .before .before .args .z))
+sum-is : (c : tie.After-high-of2) → c .high-of2 .result ≡ highBits (c .before .before .before .args .p)
+    (pos (c .before .before .before .args .r) +ℤ pos (c .before .before .before .args .z))
 sum-is c =
     let w = c .before .before in
     let s = w .before in

@@ -11,7 +11,8 @@ use Rattle.rounding.proofs.low_of.Tie as tie
 room : (c : tie.Start) → Room (c .args .p) (c .args .x)
 room c = room-of (c .args .p) (c .pre .0) (c .args .x)
 
-high-is : (c : tie.After-quotient) → c .quotient .result ≡ stepOf (c .before .before .before .args .p) (offset (c .before .before .before .args .p) (c .before .before .before .args .x))
+high-is : (c : tie.After-quotient) → c .quotient .result ≡ stepOf (c .before .before .before .args .p)
+    (offset (c .before .before .before .args .p) (c .before .before .before .args .x))
 high-is c = c .quotient .ensures ∙ ap (stepOf (c .before .before .before .args .p)) (c .before .before .wrap .ensures)
 
 add-wrap : tie.Need-add-wrap

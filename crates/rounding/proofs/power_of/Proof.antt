@@ -7,7 +7,6 @@ use lib.IntN.{subℕ}
 use mir.Syntax.{w32}
 use Rattle.sets.specs.Set.{Set}
 use Rattle.residues.proofs.Machine.{back}
-use Rattle.rounding.proofs.Closed.{closed}
 use Rattle.rounding.proofs.Power.{half, half-pos, half-room, d-pos, shifted, power-high, power-low}
 use borrow.Author.Needs.{needs}
 use Rattle.rounding.proofs.power_of.Statement.{statement}

@@ -21,7 +21,7 @@ use Rattle.rounding.proofs.used_of.Statement.{statement}
 use Rattle.rounding.proofs.used_of.Tie as tie
 
 split-is : (c : tie.After-split-of) → c .split-of .result ≡ decompose (c .before .args .p) (pos (c .before .args .r))
-split-is c = c .split-of .ensures ∙ sym (parts-small (c .before .args .p) (c .before .pre .0) (c .before .args .r) (c .before .pre .1 .1))
+split-is c = c .split-of .ensures ∙ sym (parts-small (c .before .args .p) (c .before .pre .0) (c .before .args .r) (c .before .pre .1))
 
 record Small (p : Set) (high : ℕ) : Type 0 where
   less : high < steps p
@@ -41,7 +41,8 @@ small c =
     }
 
 -- the test of the low bits, as the machine reads them
-sign : (c : tie.After-split-of) (t : Bool) → ltZ (pos 0) (toZ w32 (ofZ w32 (c .split-of .result .low))) ≡ t → ltZ (pos 0) (lowBits (c .before .args .p) (pos (c .before .args .r))) ≡ t
+sign : (c : tie.After-split-of) (t : Bool) → ltZ (pos 0) (toZ w32 (ofZ w32 (c .split-of .result .low))) ≡ t →
+    ltZ (pos 0) (lowBits (c .before .args .p) (pos (c .before .args .r))) ≡ t
 sign c t e =
     let b : SFits w32 (c .split-of .result .low) = search needs in
     ap (λ (x : Split). ltZ (pos 0) (x .low)) (sym (split-is c)) ∙ ap (ltZ (pos 0)) (sym (back w32 b)) ∙ e

@@ -6,7 +6,7 @@ use native.Mathlib.Omega.{arith}
 use native.Mathlib.Numerals.{add-one}
 use lib.ListN.{length, take, drop, set, getD, length-set}
 use lib.Seq.{paste, paste-zero, paste-suc, take-length}
-use Rattle.shake.specs.Steps.{put}
+use Rattle.shake.specs.Inner.{put}
 use Rattle.shake.proofs.copy.Statement.{statement}
 use Rattle.shake.proofs.copy.Tie as tie
 

@@ -1,21 +1,42 @@
-use Rattle.tries.proofs.Stages.{ready-mask, within, asks-product, stage-y, stage-w}
+mod Places
 use mathlib.Core.Path.{_∙_}
+use lib.Dec.{lit≤}
 use native.Mathlib.Omega.{arith}
+use Rattle.workspace.specs.declared.Place.the-variants as place
+use Rattle.workspace.proofs.Holding.{residues-of, residues-kept, room-kept}
+use Rattle.tries.proofs.Stages.{stage-y, stage-w}
 use borrow.Author.Needs.{needs}
 use Rattle.tries.proofs.mask.Statement.{statement}
 use Rattle.tries.proofs.mask.Tie as tie
+use Places.{after-multiply-arg, done}
+
+-- place masked = After-fill-y
+-- place multiplied = After-multiply
+-- place done = After-slice-known3
 
 fill-y-requires : tie.Need-fill-y-requires
-fill-y-requires c κs = (c .before .before .before .pre .0 .0, (omega arith, within (c .before .before .before .args .p) (c .before .before .before .pre .0 .1) 4 (omega arith), c .before .before .before .pre .1))
+fill-y-requires c κs = search needs
 
 multiply-requires : tie.Need-multiply-requires
-multiply-requires c κs = (c .before .before .before .before .before .before .before .pre .0 .0, asks-product (c .before .before .before .before .before .before .before .args .p) (ready-mask (c .before .before .before .before .before .before .before .args .p) (c .before .before .before .before .before .before .before .pre .0 .0) (c .before .before .before .before .before .before .before .args .rho .now) (c .before .before .before .before .before .before .before .args .kappa) (c .before .before .before .before .before .before .before .pre .0 .1) (c .before .before .before .fill-y .ensures)) 0 4 5 (omega arith) (omega arith) (omega arith) (omega arith) (omega arith))
+multiply-requires c κs =
+    let at = after-multiply-arg c in
+    let y = at.masked.fill-y.ensures in
+    let r = at.start.pre.0.1 in (
+      (at.start.pre.0.0, room-kept (y .0) r.room),
+      (residues-kept (y .0) place.A (λ e. omega arith) (r.each place.A (lit≤ tt)), residues-of _ at.start.pre.0.0.good (y .1)),
+    )
 
 same-length : tie.Need-same-length
 same-length c = search needs
 
 returns : tie.Need-returns
-returns c = ((λ S e u. stage-w (c .before .before .before .before .before .before .before .before .before .before .args .p) S (c .before .before .before .before .before .before .before .before .before .before .pre .0 .0) (c .before .before .before .before .before .before .before .before .before .before .args .kappa) (stage-y (c .before .before .before .before .before .before .before .before .before .before .args .p) S (c .before .before .before .before .before .before .before .before .before .before .pre .0 .0) (c .before .before .before .before .before .before .before .before .before .before .args .kappa) (c .before .before .before .before .before .before .before .before .before .before .args .rho .now) e u (c .before .before .before .before .before .before .fill-y .ensures)) (c .before .before .multiply .ensures)), (c .before .before .multiply .ensures .long ∙ c .before .before .before .before .before .before .fill-y .ensures .long))
+returns c =
+    let at = done c in
+    let y = at.masked.fill-y.ensures in
+    let w = at.multiplied.multiply.ensures in (
+      (λ S e u. stage-w at.start.args.p S at.start.args.kappa (stage-y at.start.args.p S at.start.args.kappa at.start.args.rho.now e u (y .0) (y .1)) w),
+      w .touched .long ∙ y .0 .long,
+    )
 
 pub mask-spec : {M : Type 1} → statement M
 mask-spec = tie.close (tie.spec fill-y-requires multiply-requires same-length returns)

@@ -7,10 +7,14 @@ use Rattle.vectors_test.proofs.records.Statement.{statement}
 use Rattle.vectors_test.proofs.records.Tie as tie
 
 abbrev Inv-loop : tie.InvT-loop
-Inv-loop fd h₀ body₀ message₀ public₀ secret₀ signature₀ keys₀ signing₀ checking₀ patches₀ at₀ h body message public secret signature keys signing checking patches at = (at ≤ 100000) × (keys ≤ at) × (signing ≤ at) × (checking ≤ at) × (patches ≤ at) × (length h ≡ length h₀) × (length body ≡ length body₀) × (length message ≡ length message₀) × (length public ≡ length public₀) × (length secret ≡ length secret₀) × (length signature ≡ length signature₀)
+Inv-loop fd h₀ body₀ message₀ public₀ secret₀ signature₀ keys₀ signing₀ checking₀ patches₀ at₀ h body message public secret signature keys signing checking patches at =
+    (at ≤ 100000) × (keys ≤ at) × (signing ≤ at) × (checking ≤ at) × (patches ≤ at) ×
+    (length h ≡ length h₀) × (length body ≡ length body₀) × (length message ≡ length message₀) ×
+    (length public ≡ length public₀) × (length secret ≡ length secret₀) × (length signature ≡ length signature₀)
 
 abbrev μ-loop : tie.MeasureT-loop
-μ-loop fd h₀ body₀ message₀ public₀ secret₀ signature₀ keys₀ signing₀ checking₀ patches₀ at₀ h body message public secret signature keys signing checking patches at = 100000 - at
+μ-loop fd h₀ body₀ message₀ public₀ secret₀ signature₀ keys₀ signing₀ checking₀ patches₀ at₀ h body message public secret signature keys signing checking patches at =
+    100000 - at
 
 pub records-spec : {M : Type 1} → statement M
 records-spec =

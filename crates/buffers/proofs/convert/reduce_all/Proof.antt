@@ -40,8 +40,11 @@ loop-less c = search needs
 
 loop-again : tie.Need-loop-again Inv-loop μ-loop
 loop-again c =
-    let l = c .before .before .before .loop in
-    (l .inv .0, rw (c .reduce .ensures, toZ-ofZ (record { sfits = c .before .reduce-arg .given })) (changed-more (pos 0) _ _ _ (l .i) _ (l .inv .1) (c .before .before .loop-test .taken)))
+    let l = c .before .before .before .loop in (
+      l .inv .0,
+      rw (c .reduce .ensures, toZ-ofZ (record { sfits = c .before .reduce-arg .given }))
+          (changed-more (pos 0) _ _ _ (l .i) _ (l .inv .1) (c .before .before .loop-test .taken)),
+    )
 
 same-length : tie.Need-same-length Inv-loop μ-loop
 same-length c = search needs

@@ -42,8 +42,15 @@ loop-less c = search needs
 
 loop-again : tie.Need-loop-again Inv-loop μ-loop
 loop-again c =
-    let l = c .before .before .before .loop in
-    (l .inv .0, rw (toZ-ofZ (record { sfits = c .difference .ok }), c .difference .ensures ∙ sub-zero (getD (c .before .before .before .before .before .args .from .now) (l .i) 0)) (changed-more 0 pos _ _ (l .i) _ (l .inv .1) (c .before .before .loop-test .taken)))
+    let l = c .before .before .before .loop in (
+      l .inv .0,
+      rw (
+        toZ-ofZ (record { sfits = c .difference .ok }),
+        c .difference .ensures ∙
+            sub-zero (getD (c .before .before .before .before .before .args .from .now) (l .i) 0),
+      )
+          (changed-more 0 pos _ _ (l .i) _ (l .inv .1) (c .before .before .loop-test .taken)),
+    )
 
 same-length : tie.Need-same-length Inv-loop μ-loop
 same-length c = search needs

@@ -1,8 +1,14 @@
+mod Places
 use Rattle.keys.proofs.Written.{secret-hashed}
-use Rattle.keys.specs.Steps.{values}
 use borrow.Author.Needs.{needs}
 use Rattle.keys.proofs.write.both.Statement.{statement}
 use Rattle.keys.proofs.write.both.Tie as tie
+use Places.{done}
+
+-- place public-written = After-public
+-- place hashed = After-shake256
+-- place secret-written = After-secret
+-- place done = After-slice-known4
 
 public-requires : tie.Need-public-requires
 public-requires c κs = search needs
@@ -32,7 +38,11 @@ same-length-2 : tie.Need-same-length-2
 same-length-2 c = search needs
 
 returns : tie.Need-returns
-returns c = (c .before .before .before .before .before .before .before .before .before .before .before .before .before .public .ensures, secret-hashed (c .before .before .before .before .before .before .before .before .before .before .before .before .before .before .before .before .before .before .before .before .args .p) _ (c .before .before .before .before .before .before .before .before .before .before .before .before .before .before .before .before .before .before .before .before .args .zeta .now) (c .before .before .before .before .before .before .shake256 .last .1 .1 .1 .0) (c .before .before .before .before .before .before .before .before .before .before .before .before .before .before .before .before .before .before .before .before .args .k .now) (c .before .before .before .before .before .before .before .before .before .before .before .before .before .public .last .1 .1 .1 .0) (values (c .before .before .before .before .before .before .before .before .before .before .before .before .before .before .before .before .before .before .before .before .args .p) 1 (c .before .before .before .before .before .before .before .before .before .before .before .before .before .before .before .before .before .before .before .before .args .work .now)) (values (c .before .before .before .before .before .before .before .before .before .before .before .before .before .before .before .before .before .before .before .before .args .p) 2 (c .before .before .before .before .before .before .before .before .before .before .before .before .before .before .before .before .before .before .before .before .args .work .now)) (values (c .before .before .before .before .before .before .before .before .before .before .before .before .before .before .before .before .before .before .before .before .args .p) 5 (c .before .before .before .before .before .before .before .before .before .before .before .before .before .before .before .before .before .before .before .before .args .work .now)) (c .before .before .secret .ensures) (c .before .before .before .before .before .before .shake256 .ensures))
+returns c =
+    let at = done c in (
+      at.public-written.public.ensures,
+      secret-hashed at.start.args.p _ _ _ _ _ _ _ _ at.secret-written.secret.ensures at.hashed.shake256.ensures,
+    )
 
 pub both-spec : {M : Type 1} → statement M
 both-spec =

@@ -1,68 +1,85 @@
+mod Places
+use mathlib.Core.Path.{refl, _∙_}
+use Rattle.packing.proofs.Room.{s-readable, t0-readable}
+use Rattle.workspace.proofs.Packing.{asks-put}
+use Rattle.packing.specs.declared.parts.Part.the-variants as part
+use Rattle.workspace.specs.declared.Place.the-variants as place
 use Rattle.keys.proofs.Written.{secret-written}
-use Rattle.keys.proofs.Readied.{packing-asks}
-use Rattle.keys.proofs.Sizes.{s-room, seed-place, s1-place, s2-place, t0-place}
-use Rattle.keys.specs.Steps.{values}
-use Rattle.packing.proofs.Room.{t0-readable}
-use Rattle.packing.specs.Layouts.{t0Layout}
-use mathlib.Core.Path.{_∙_}
-use native.Mathlib.Omega.{arith}
 use borrow.Author.Needs.{needs}
 use Rattle.keys.proofs.write.secret.Statement.{statement}
 use Rattle.keys.proofs.write.secret.Tie as tie
+use Places.{after-put-arg4, after-slice-known5, after-put-arg5, after-slice-known6, after-put-arg6, done}
 
-s-size-requires : tie.Need-s-size-requires
-s-size-requires c κs = search needs
+-- place zeta-put = After-put
+-- place ph-put = After-put2
+-- place k-put = After-put3
+-- place s1-put = After-put4
+-- place s2-put = After-put5
+-- place t0-put = After-put6
+-- place done = After-slice-known7
 
-put-bytes-requires : tie.Need-put-bytes-requires
-put-bytes-requires c κs = seed-place (c .before .before .before .before .before .before .before .args .p) (c .before .before .before .before .before .before .before .pre .0 .good) _ (c .before .before .before .before .before .before .before .pre .1 .0 .4) 0 _ (c .before .before .before .before .before .before .before .pre .1 .0 .0) (omega arith)
+put-requires : tie.Need-put-requires
+put-requires c κs = search needs
 
-put-bytes-requires-2 : tie.Need-put-bytes-requires-2
-put-bytes-requires-2 c κs = seed-place (c .before .before .before .before .before .before .before .before .before .before .before .args .p) (c .before .before .before .before .before .before .before .before .before .before .before .pre .0 .good) _ (c .before .before .before .put-bytes .kept .0 ∙ c .before .before .before .before .before .before .before .before .before .before .before .pre .1 .0 .4) 32 _ (c .before .before .before .before .before .before .before .before .before .before .before .pre .1 .0 .1) (omega arith)
+put-requires-2 : tie.Need-put-requires-2
+put-requires-2 c κs = search needs
 
-put-bytes-requires-3 : tie.Need-put-bytes-requires-3
-put-bytes-requires-3 c κs = seed-place (c .before .before .before .before .before .before .before .before .before .before .before .before .before .before .before .args .p) (c .before .before .before .before .before .before .before .before .before .before .before .before .before .before .before .pre .0 .good) _ (c .before .before .before .put-bytes2 .kept .0 ∙ c .before .before .before .before .before .before .before .put-bytes .kept .0 ∙ c .before .before .before .before .before .before .before .before .before .before .before .before .before .before .before .pre .1 .0 .4) 64 _ (c .before .before .before .before .before .before .before .before .before .before .before .before .before .before .before .pre .1 .0 .2) (omega arith)
+put-requires-3 : tie.Need-put-requires-3
+put-requires-3 c κs = search needs
 
-put-s-requires : tie.Need-put-s-requires
-put-s-requires c κs = let l = s1-place (c .before .before .before .before .before .before .before .before .before .before .before .before .before .before .before .before .before .before .before .args .p) (c .before .before .before .before .before .before .before .before .before .before .before .before .before .before .before .before .before .before .before .pre .0 .good) _ (c .before .before .before .put-bytes3 .kept .0 ∙ c .before .before .before .before .before .before .before .put-bytes2 .kept .0 ∙ c .before .before .before .before .before .before .before .before .before .before .before .put-bytes .kept .0 ∙ c .before .before .before .before .before .before .before .before .before .before .before .before .before .before .before .before .before .before .before .pre .1 .0 .4) in (c .before .before .before .before .before .before .before .before .before .before .before .before .before .before .before .before .before .before .before .pre .0, ((omega arith, omega arith, l .0, l .1), c .before .before .before .before .before .before .before .before .before .before .before .before .before .before .before .before .before .before .before .pre .1 .1 .0))
+of-requires : tie.Need-of-requires
+of-requires c κs = search needs
 
-add-put-s : tie.Need-add-put-s
-add-put-s c = omega (arith, c .before .before .before .before .before .before .before .before .before .before .before .before .before .before .before .before .before .s-size .ensures, s-room (c .before .before .before .before .before .before .before .before .before .before .before .before .before .before .before .before .before .before .before .before .before .before .before .args .p) (c .before .before .before .before .before .before .before .before .before .before .before .before .before .before .before .before .before .before .before .before .before .before .before .pre .0 .good))
+put-requires-4 : tie.Need-put-requires-4
+put-requires-4 c κs =
+    let at = after-put-arg4 c in
+    asks-put at.start.args.p at.start.pre.0.0 _ (s-readable at.start.args.p at.start.pre.0.0.good) place.S1 at.start.args.work.now at.start.pre.0.1 at.start.pre.1.1.0
+    part.S1 refl _ (at.k-put.put3.kept.1.1.0 ∙ at.ph-put.put2.kept.1.1.0 ∙ at.zeta-put.put.kept.1.1.0 ∙ at.start.pre.1.0.3) _
+    at.after-of.of.ensures
 
-put-s-requires-2 : tie.Need-put-s-requires-2
-put-s-requires-2 c κs = let l = s2-place (c .before .before .before .before .before .before .before .before .before .before .before .before .before .before .before .before .before .before .before .before .before .before .before .args .p) (c .before .before .before .before .before .before .before .before .before .before .before .before .before .before .before .before .before .before .before .before .before .before .before .pre .0 .good) _ (c .before .before .before .put-s .kept .1 .1 .1 .0 ∙ c .before .before .before .before .before .before .before .put-bytes3 .kept .0 ∙ c .before .before .before .before .before .before .before .before .before .before .before .put-bytes2 .kept .0 ∙ c .before .before .before .before .before .before .before .before .before .before .before .before .before .before .before .put-bytes .kept .0 ∙ c .before .before .before .before .before .before .before .before .before .before .before .before .before .before .before .before .before .before .before .before .before .before .before .pre .1 .0 .4) _ (c .before .before .before .before .before .before .before .before .before .before .before .before .before .before .before .before .before .s-size .ensures) in (c .before .before .before .before .before .before .before .before .before .before .before .before .before .before .before .before .before .before .before .before .before .before .before .pre .0, ((omega arith, omega arith, l .0, l .1), c .before .before .before .before .before .before .before .before .before .before .before .before .before .before .before .before .before .before .before .before .before .before .before .pre .1 .1 .1))
+of-requires-2 : tie.Need-of-requires-2
+of-requires-2 c κs = let at = after-slice-known5 c in at.start.pre.0.0.good
 
-t0-requires : tie.Need-t0-requires
-t0-requires c κs = c .before .before .before .before .before .before .before .before .before .before .before .before .before .before .before .before .before .before .before .before .before .before .before .before .before .before .pre .0 .good
+put-requires-5 : tie.Need-put-requires-5
+put-requires-5 c κs =
+    let at = after-put-arg5 c in
+    asks-put at.start.args.p at.start.pre.0.0 _ (s-readable at.start.args.p at.start.pre.0.0.good) place.S2 at.start.args.work.now at.start.pre.0.1 at.start.pre.1.1.1
+    part.S2 refl _ (at.s1-put.put4.kept.1.1.1.1.1.0 ∙ at.k-put.put3.kept.1.1.0 ∙ at.ph-put.put2.kept.1.1.0 ∙ at.zeta-put.put.kept.1.1.0 ∙ at.start.pre.1.0.3) _
+    at.after-of2.of2.ensures
 
-add-put-packed : tie.Need-add-put-packed
-add-put-packed c = omega (arith, c .before .before .before .before .before .before .before .before .before .before .before .before .before .before .before .before .before .before .before .before .before .before .s-size .ensures, s-room (c .before .before .before .before .before .before .before .before .before .before .before .before .before .before .before .before .before .before .before .before .before .before .before .before .before .before .before .before .args .p) (c .before .before .before .before .before .before .before .before .before .before .before .before .before .before .before .before .before .before .before .before .before .before .before .before .before .before .before .before .pre .0 .good))
+of-requires-3 : tie.Need-of-requires-3
+of-requires-3 c κs = let at = after-slice-known6 c in at.start.pre.0.0.good
 
-add-put-packed-2 : tie.Need-add-put-packed-2
-add-put-packed-2 c = omega (arith, c .before .before .before .before .before .before .before .before .before .before .before .before .before .before .before .before .before .before .before .before .before .before .s-size .ensures, s-room (c .before .before .before .before .before .before .before .before .before .before .before .before .before .before .before .before .before .before .before .before .before .before .before .before .before .before .before .before .args .p) (c .before .before .before .before .before .before .before .before .before .before .before .before .before .before .before .before .before .before .before .before .before .before .before .before .before .before .before .before .pre .0 .good))
-
-put-packed-requires : tie.Need-put-packed-requires
-put-packed-requires c κs = packing-asks (c .before .before .before .before .before .before .before .before .before .before .before .before .before .before .before .before .before .before .before .before .before .before .before .before .before .before .before .before .args .p) (c .before .before .before .before .before .before .before .before .before .before .before .before .before .before .before .before .before .before .before .before .before .before .before .before .before .before .before .before .pre .0) 5 _ (c .before .before .before .before .before .before .before .before .before .before .before .before .before .before .before .before .before .before .before .before .before .before .before .before .before .before .before .before .args .work .now) (c .before .before .before .before .put-s2 .last .1 .1 .1 .0) (c .before .t0 .result) (t0Layout (c .before .before .before .before .before .before .before .before .before .before .before .before .before .before .before .before .before .before .before .before .before .before .before .before .before .before .before .before .args .p)) (c .before .t0 .ensures) (t0-readable (c .before .before .before .before .before .before .before .before .before .before .before .before .before .before .before .before .before .before .before .before .before .before .before .before .before .before .before .before .args .p) (c .before .before .before .before .before .before .before .before .before .before .before .before .before .before .before .before .before .before .before .before .before .before .before .before .before .before .before .before .pre .0 .good)) (omega arith, omega (arith, c .before .before .before .before .before .before .before .before .before .before .before .before .before .before .before .before .before .before .before .before .before .before .before .before .before .before .before .before .pre .1 .0 .3)) (t0-place (c .before .before .before .before .before .before .before .before .before .before .before .before .before .before .before .before .before .before .before .before .before .before .before .before .before .before .before .before .args .p) (c .before .before .before .before .before .before .before .before .before .before .before .before .before .before .before .before .before .before .before .before .before .before .before .before .before .before .before .before .pre .0 .good) _ (c .before .before .before .before .put-s2 .kept .1 .1 .1 .0 ∙ c .before .before .before .before .before .before .before .before .put-s .kept .1 .1 .1 .0 ∙ c .before .before .before .before .before .before .before .before .before .before .before .before .put-bytes3 .kept .0 ∙ c .before .before .before .before .before .before .before .before .before .before .before .before .before .before .before .before .put-bytes2 .kept .0 ∙ c .before .before .before .before .before .before .before .before .before .before .before .before .before .before .before .before .before .before .before .before .put-bytes .kept .0 ∙ c .before .before .before .before .before .before .before .before .before .before .before .before .before .before .before .before .before .before .before .before .before .before .before .before .before .before .before .before .pre .1 .0 .4) _ (c .before .before .before .before .before .before .before .before .before .before .before .before .before .before .before .before .before .before .before .before .before .before .s-size .ensures)) (c .before .before .before .before .before .before .before .before .before .before .before .before .before .before .before .before .before .before .before .before .before .before .before .before .before .before .before .before .pre .1 .1 .2)
+put-requires-6 : tie.Need-put-requires-6
+put-requires-6 c κs =
+    let at = after-put-arg6 c in
+    asks-put at.start.args.p at.start.pre.0.0 _ (t0-readable at.start.args.p at.start.pre.0.0.good) place.T0 at.start.args.work.now at.start.pre.0.1 at.start.pre.1.1.2
+    part.T0 refl _ (at.s2-put.put5.kept.1.1.1.1.1.0 ∙ at.s1-put.put4.kept.1.1.1.1.1.0 ∙ at.k-put.put3.kept.1.1.0 ∙ at.ph-put.put2.kept.1.1.0 ∙ at.zeta-put.put.kept.1.1.0 ∙ at.start.pre.1.0.3) _
+    at.after-of3.of3.ensures
 
 same-length : tie.Need-same-length
-same-length c = search needs
+same-length c =
+    let at = done c in at.t0-put.put6.kept.1.1.1.1.1.0 ∙ at.s2-put.put5.kept.1.1.1.1.1.0 ∙ at.s1-put.put4.kept.1.1.1.1.1.0 ∙ at.k-put.put3.kept.1.1.0 ∙ at.ph-put.put2.kept.1.1.0 ∙ at.zeta-put.put.kept.1.1.0
 
 returns : tie.Need-returns
-returns c = secret-written (c .before .before .before .before .before .before .before .before .before .before .before .before .before .before .before .before .before .before .before .before .before .before .before .before .before .before .before .before .before .before .before .args .p) (record { zeta = c .before .before .before .before .before .before .before .before .before .before .before .before .before .before .before .before .before .before .before .before .before .before .before .before .before .before .before .before .before .before .before .args .zeta .now; ph = c .before .before .before .before .before .before .before .before .before .before .before .before .before .before .before .before .before .before .before .before .before .before .before .before .before .before .before .before .before .before .before .args .ph .now; k = c .before .before .before .before .before .before .before .before .before .before .before .before .before .before .before .before .before .before .before .before .before .before .before .before .before .before .before .before .before .before .before .args .k .now; s1 = values (c .before .before .before .before .before .before .before .before .before .before .before .before .before .before .before .before .before .before .before .before .before .before .before .before .before .before .before .before .before .before .before .args .p) 1 (c .before .before .before .before .before .before .before .before .before .before .before .before .before .before .before .before .before .before .before .before .before .before .before .before .before .before .before .before .before .before .before .args .work .now); s2 = values (c .before .before .before .before .before .before .before .before .before .before .before .before .before .before .before .before .before .before .before .before .before .before .before .before .before .before .before .before .before .before .before .args .p) 2 (c .before .before .before .before .before .before .before .before .before .before .before .before .before .before .before .before .before .before .before .before .before .before .before .before .before .before .before .before .before .before .before .args .work .now); t0 = values (c .before .before .before .before .before .before .before .before .before .before .before .before .before .before .before .before .before .before .before .before .before .before .before .before .before .before .before .before .before .before .before .args .p) 5 (c .before .before .before .before .before .before .before .before .before .before .before .before .before .before .before .before .before .before .before .before .before .before .before .before .before .before .before .before .before .before .before .args .work .now) }) (c .before .before .before .before .before .before .before .before .before .before .before .before .before .before .before .before .before .before .before .before .before .before .before .before .before .before .before .before .before .before .before .pre .1 .0 .0) (c .before .before .before .before .before .before .before .before .before .before .before .before .before .before .before .before .before .before .before .before .before .before .before .before .before .before .before .before .before .before .before .pre .1 .0 .1) (c .before .before .before .before .before .before .before .before .before .before .before .before .before .before .before .before .before .before .before .before .before .before .before .before .before .before .before .before .before .before .before .pre .1 .0 .2) (c .before .before .before .before .before .before .before .before .before .before .before .before .before .before .before .before .before .before .before .before .before .before .before .before .before .s-size .result) (c .before .before .before .before .before .before .before .before .before .before .before .before .before .before .before .before .before .before .before .before .before .before .before .before .before .s-size .ensures) (c .before .before .before .before .t0 .result) (c .before .before .before .before .t0 .ensures) (c .before .before .before .before .before .before .before .before .before .before .before .before .before .before .before .before .before .before .before .before .before .before .before .before .before .before .before .before .before .before .before .args .out .now) (c .before .before .before .before .before .before .before .before .before .before .before .before .before .before .before .before .before .before .before .before .before .before .before .put-bytes .last .0) (c .before .before .before .before .before .before .before .before .before .before .before .before .before .before .before .before .before .before .before .put-bytes2 .last .0) (c .before .before .before .before .before .before .before .before .before .before .before .before .before .before .before .put-bytes3 .last .0) (c .before .before .before .before .before .before .before .before .before .before .before .put-s .last .1 .1 .1 .0) (c .before .before .before .before .before .before .before .put-s2 .last .1 .1 .1 .0) _ (c .before .before .before .before .before .before .before .before .before .before .before .before .before .before .before .before .before .before .before .before .before .before .before .before .before .before .before .before .before .before .before .pre .1 .0 .4) (c .before .before .before .before .before .before .before .before .before .before .before .before .before .before .before .before .before .before .before .before .before .before .before .put-bytes .ensures) (c .before .before .before .before .before .before .before .before .before .before .before .before .before .before .before .before .before .before .before .put-bytes2 .ensures) (c .before .before .before .before .before .before .before .before .before .before .before .before .before .before .before .put-bytes3 .ensures) (c .before .before .before .before .before .before .before .before .before .before .before .put-s .ensures) (c .before .before .before .before .before .before .before .put-s2 .ensures) (c .before .before .put-packed .ensures)
+returns c =
+    let at = done c in
+    secret-written at.start.args.p _ at.start.pre.1.0.0 at.start.pre.1.0.1 at.start.pre.1.0.2 _ _ _ at.after-of.of.ensures at.after-of2.of2.ensures
+    at.after-of3.of3.ensures _ _ _ _ _ _ _ at.start.pre.1.0.3 at.zeta-put.put.ensures at.ph-put.put2.ensures at.k-put.put3.ensures
+    at.s1-put.put4.ensures at.s2-put.put5.ensures at.t0-put.put6.ensures
 
 pub secret-spec : {M : Type 1} → statement M
 secret-spec =
     tie.close
     (tie.spec
-    s-size-requires
-    put-bytes-requires
-    put-bytes-requires-2
-    put-bytes-requires-3
-    put-s-requires
-    add-put-s
-    put-s-requires-2
-    t0-requires
-    add-put-packed
-    add-put-packed-2
-    put-packed-requires
+    put-requires
+    put-requires-2
+    put-requires-3
+    of-requires
+    put-requires-4
+    of-requires-2
+    put-requires-5
+    of-requires-3
+    put-requires-6
     same-length
     returns)

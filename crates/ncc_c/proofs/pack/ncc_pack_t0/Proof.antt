@@ -1,6 +1,4 @@
-use Rattle.packing.specs.Layouts.{t0Layout}
-use Rattle.sets.specs.declared.refusal.Field.the-variants.{T0}
-use Rattle.sets.specs.Set.{tri1}
+use Rattle.answers.specs.declared.Field.the-variants.{T0}
 use Rattle.ncc_c.proofs.Coding.{pack-index, to-number}
 use borrow.Author.Needs.{needs}
 use Rattle.ncc_c.proofs.pack.ncc_pack_t0.Statement.{statement}
@@ -10,7 +8,7 @@ pack-t0-requires : tie.Need-pack-t0-requires
 pack-t0-requires c κs = search needs
 
 answer-requires : tie.Need-answer-requires
-answer-requires c κs = pack-index (t0Layout tri1) T0 (c .before .before .before .before .before .args .values .now) (c .before .before .before .before .before .args .out .now) (c .before .before .pack-t0 .result) (c .before .before .pack-t0 .ensures .answers)
+answer-requires c κs = pack-index T0 (c .before .before .before .before .before .args .values .now) (c .before .before .before .before .before .args .out .now) (c .before .before .pack-t0 .result) (c .before .before .pack-t0 .ensures .answers)
 
 same-length : tie.Need-same-length
 same-length c = search needs

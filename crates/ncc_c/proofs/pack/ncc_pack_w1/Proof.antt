@@ -1,6 +1,4 @@
-use Rattle.packing.specs.Layouts.{w1Layout}
-use Rattle.sets.specs.declared.refusal.Field.the-variants.{W1}
-use Rattle.sets.specs.Set.{tri1}
+use Rattle.answers.specs.declared.Field.the-variants.{W1}
 use Rattle.ncc_c.proofs.Coding.{pack-index, to-number}
 use borrow.Author.Needs.{needs}
 use Rattle.ncc_c.proofs.pack.ncc_pack_w1.Statement.{statement}
@@ -10,7 +8,7 @@ pack-w1-requires : tie.Need-pack-w1-requires
 pack-w1-requires c κs = search needs
 
 answer-requires : tie.Need-answer-requires
-answer-requires c κs = pack-index (w1Layout tri1) W1 (c .before .before .before .before .before .args .values .now) (c .before .before .before .before .before .args .out .now) (c .before .before .pack-w1 .result) (c .before .before .pack-w1 .ensures .answers)
+answer-requires c κs = pack-index W1 (c .before .before .before .before .before .args .values .now) (c .before .before .before .before .before .args .out .now) (c .before .before .pack-w1 .result) (c .before .before .pack-w1 .ensures .answers)
 
 same-length : tie.Need-same-length
 same-length c = search needs

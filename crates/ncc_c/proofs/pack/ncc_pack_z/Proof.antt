@@ -1,6 +1,4 @@
-use Rattle.packing.specs.Layouts.{zLayout}
-use Rattle.sets.specs.declared.refusal.Field.the-variants.{Z}
-use Rattle.sets.specs.Set.{tri1}
+use Rattle.answers.specs.declared.Field.the-variants.{Z}
 use Rattle.ncc_c.proofs.Coding.{pack-index, to-number}
 use borrow.Author.Needs.{needs}
 use Rattle.ncc_c.proofs.pack.ncc_pack_z.Statement.{statement}
@@ -10,7 +8,7 @@ pack-z-requires : tie.Need-pack-z-requires
 pack-z-requires c κs = search needs
 
 answer-requires : tie.Need-answer-requires
-answer-requires c κs = pack-index (zLayout tri1) Z (c .before .before .before .before .before .args .values .now) (c .before .before .before .before .before .args .out .now) (c .before .before .pack-z .result) (c .before .before .pack-z .ensures .answers)
+answer-requires c κs = pack-index Z (c .before .before .before .before .before .args .values .now) (c .before .before .before .before .before .args .out .now) (c .before .before .pack-z .result) (c .before .before .pack-z .ensures .answers)
 
 same-length : tie.Need-same-length
 same-length c = search needs

@@ -1,6 +1,4 @@
-use Rattle.packing.specs.Layouts.{t0Layout}
-use Rattle.sets.specs.declared.refusal.Field.the-variants.{T0}
-use Rattle.sets.specs.Set.{tri1}
+use Rattle.answers.specs.declared.Field.the-variants.{T0}
 use Rattle.ncc_c.proofs.Coding.{unpack-index, to-number}
 use borrow.Author.Needs.{needs}
 use Rattle.ncc_c.proofs.pack.ncc_unpack_t0.Statement.{statement}
@@ -10,7 +8,7 @@ unpack-t0-requires : tie.Need-unpack-t0-requires
 unpack-t0-requires c κs = search needs
 
 answer-requires : tie.Need-answer-requires
-answer-requires c κs = unpack-index (t0Layout tri1) T0 (c .before .before .before .before .args .packed .now) (c .before .before .before .before .args .out .now) (c .before .unpack-t0 .result) (c .before .unpack-t0 .ensures .answers)
+answer-requires c κs = unpack-index T0 (c .before .before .before .before .args .packed .now) (c .before .before .before .before .args .out .now) (c .before .unpack-t0 .result) (c .before .unpack-t0 .ensures .answers)
 
 same-length : tie.Need-same-length
 same-length c = search needs

@@ -1,6 +1,4 @@
-use Rattle.packing.specs.Layouts.{t1Layout}
-use Rattle.sets.specs.declared.refusal.Field.the-variants.{T1}
-use Rattle.sets.specs.Set.{tri1}
+use Rattle.answers.specs.declared.Field.the-variants.{T1}
 use Rattle.ncc_c.proofs.Coding.{unpack-index, to-number}
 use borrow.Author.Needs.{needs}
 use Rattle.ncc_c.proofs.pack.ncc_unpack_t1.Statement.{statement}
@@ -10,7 +8,7 @@ unpack-t1-requires : tie.Need-unpack-t1-requires
 unpack-t1-requires c κs = search needs
 
 answer-requires : tie.Need-answer-requires
-answer-requires c κs = unpack-index (t1Layout tri1) T1 (c .before .before .before .before .args .packed .now) (c .before .before .before .before .args .out .now) (c .before .unpack-t1 .result) (c .before .unpack-t1 .ensures .answers)
+answer-requires c κs = unpack-index T1 (c .before .before .before .before .args .packed .now) (c .before .before .before .before .args .out .now) (c .before .unpack-t1 .result) (c .before .unpack-t1 .ensures .answers)
 
 same-length : tie.Need-same-length
 same-length c = search needs

@@ -1,6 +1,4 @@
-use Rattle.packing.specs.Layouts.{zLayout}
-use Rattle.sets.specs.declared.refusal.Field.the-variants.{Z}
-use Rattle.sets.specs.Set.{tri1}
+use Rattle.answers.specs.declared.Field.the-variants.{Z}
 use Rattle.ncc_c.proofs.Coding.{unpack-index, to-number}
 use borrow.Author.Needs.{needs}
 use Rattle.ncc_c.proofs.pack.ncc_unpack_z.Statement.{statement}
@@ -10,7 +8,7 @@ unpack-z-requires : tie.Need-unpack-z-requires
 unpack-z-requires c κs = search needs
 
 answer-requires : tie.Need-answer-requires
-answer-requires c κs = unpack-index (zLayout tri1) Z (c .before .before .before .before .args .packed .now) (c .before .before .before .before .args .out .now) (c .before .unpack-z .result) (c .before .unpack-z .ensures .answers)
+answer-requires c κs = unpack-index Z (c .before .before .before .before .args .packed .now) (c .before .before .before .before .args .out .now) (c .before .unpack-z .result) (c .before .unpack-z .ensures .answers)
 
 same-length : tie.Need-same-length
 same-length c = search needs

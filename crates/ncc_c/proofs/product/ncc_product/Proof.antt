@@ -1,9 +1,9 @@
-use Rattle.ring.specs.Profile.{set1}
 use Rattle.ncc_c.proofs.Small.{of-product-call}
 use Rattle.ncc_c.proofs.Coding.{answer-index, to-number}
 use borrow.Author.Needs.{needs}
 use Rattle.ncc_c.proofs.product.ncc_product.Statement.{statement}
 use Rattle.ncc_c.proofs.product.ncc_product.Tie as tie
+use Rattle.sets.specs.Set.{set1}
 
 product-requires : tie.Need-product-requires
 product-requires c κs = search needs

@@ -2,7 +2,6 @@ use mathlib.Core.Path.{ap, _∙_}
 use Rattle.ncc_c.specs.Answer.{encoded}
 use Rattle.ncc_c.proofs.Coding.{answer-index}
 use Rattle.ncc_c.proofs.Small.{of-checking}
-use Rattle.ring.specs.Profile.{set1}
 use Rattle.shake.specs.Shake.{shake256}
 use native.Mathlib.Omega.{arith}
 use borrow.Author.Needs.{needs}
@@ -10,8 +9,9 @@ use Rattle.ncc_c.proofs.signatures.ncc_check.Statement.{statement}
 use Rattle.ncc_c.proofs.signatures.ncc_check.Tie as tie
 use Rattle.ncc_c.proofs.signatures.ncc_check.Reads as reads
 use Rattle.ncc_c.proofs.signatures.ncc_check.Lts as lts
-use Rattle.level1.proofs.check.Reads as check-reads
+use Rattle.set1.proofs.check.Reads as check-reads
 use Rattle.ncc_c.proofs.answer.answer.Reads as answer-reads
+use Rattle.sets.specs.Set.{set1}
 
 -- src/signatures.rt:35:27
 check-requires : tie.Need-check-requires

@@ -1,6 +1,6 @@
+mod Places
 use Rattle.ncc_c.proofs.Coding.{sign-index, to-number}
 use Rattle.ncc_c.proofs.Small.{of-sign}
-use Rattle.ring.specs.Profile.{set1}
 use Rattle.shake.specs.Shake.{shake256}
 use native.Mathlib.Omega.{arith}
 use borrow.Author.Needs.{needs}
@@ -8,8 +8,10 @@ use Rattle.ncc_c.proofs.signatures.ncc_sign.Statement.{statement}
 use Rattle.ncc_c.proofs.signatures.ncc_sign.Tie as tie
 use Rattle.ncc_c.proofs.signatures.ncc_sign.Reads as reads
 use Rattle.ncc_c.proofs.signatures.ncc_sign.Lts as lts
-use Rattle.level1.proofs.sign.Reads as sign-reads
+use Rattle.set1.proofs.sign.Reads as sign-reads
 use Rattle.ncc_c.proofs.answer.signed.Reads as signed-reads
+use Rattle.sets.specs.Set.{set1}
+use Places.{after-slice-known2, after-signed}
 
 -- src/signatures.rt:28:27
 sign-requires : tie.Need-sign-requires
@@ -17,7 +19,11 @@ sign-requires c κs = search needs
 
 -- src/signatures.rt:28:5
 signed-requires : tie.Need-signed-requires
-signed-requires c κs = sign-index (c .before .before .before .before .before .before .before .args .limit) (c .before .before .sign .result) (of-sign set1 (omega arith) shake256 (c .before .before .before .before .before .before .before .args .key .now) (c .before .before .before .before .before .before .before .args .message .now) (c .before .before .before .before .before .before .before .args .limit) (c .before .before .before .before .before .before .before .args .signature .now)) (c .before .before .sign .ensures .answers)
+signed-requires c κs =
+    sign-index (after-slice-known2 c .start .args .limit) (after-slice-known2 c .after-sign .sign .result)
+    (of-sign set1 (omega arith) shake256 (after-slice-known2 c .start .args .key .now) (after-slice-known2 c .start .args .message .now)
+    (after-slice-known2 c .start .args .limit) (after-slice-known2 c .start .args .signature .now))
+    (after-slice-known2 c .after-sign .sign .ensures .answers)
 
 -- src/signatures.rt:24:1
 same-length : tie.Need-same-length
@@ -25,7 +31,7 @@ same-length c = search needs
 
 -- src/signatures.rt:24:1
 returns : tie.Need-returns
-returns c = to-number (c .before .before .before .sign .ensures) (c .signed .ensures)
+returns c = let at = after-signed c in to-number at.after-sign.sign.ensures (c .signed .ensures)
 
 pub ncc-sign-spec : {M : Type 1} → statement M
 ncc-sign-spec = tie.close (tie.spec sign-requires signed-requires same-length returns)

@@ -1,3 +1,5 @@
+mod Invariants
+mod Places
 use mathlib.Core.Path.{sym, _∙_}
 use Prim.Native.Nat.{_-_, _≤_}
 use native.Mathlib.Omega.{arith}
@@ -5,21 +7,16 @@ use lib.ListN.{length}
 use Rattle.digits.specs.Digits.{codes}
 use Rattle.digits.proofs.Codes.{length-codes, codes-at}
 use Rattle.packing.specs.Layouts.{allowed}
-use Rattle.packing.specs.Engine.{Readable, remainder}
+use Rattle.packing.specs.Inner.{Readable, remainder}
 use Rattle.packing.proofs.Scans.{Walked, walked-none, walked-more, walked-stop, walked-all}
 use borrow.Author.Needs.{needs}
 use Rattle.packing.proofs.unpack.unpack.Statement.{statement}
 use Rattle.packing.proofs.unpack.unpack.Tie as tie
-
-abbrev Inv-loop : tie.InvT-loop
-Inv-loop l q packed out₀ i₀ out i =
-    Readable l q × (length out₀ ≤ 4096) × Walked 0 (allowed l) (remainder l q) (codes (l .bits) (length out₀) packed) out₀ i out
-
-abbrev μ-loop : tie.MeasureT-loop
-μ-loop l q packed out₀ i₀ out i = length out₀ - i
+use Invariants.{Inv-loop, μ-loop}
+use Places.{after-slice-known, after-loop, after-known-told, after-enum-told}
 
 loop-holds : tie.Need-loop-holds Inv-loop μ-loop
-loop-holds c = (c .before .before .pre .0, c .before .before .pre .1 .1, walked-none 0 _ _ _ _ (sym (length-codes _ _ _)))
+loop-holds c = let at = after-slice-known c in (at.start.pre.0, at.start.pre.1.1, walked-none 0 _ _ _ _ (sym (length-codes _ _ _)))
 
 code-at-requires : tie.Need-code-at-requires Inv-loop μ-loop
 code-at-requires c κs = search needs
@@ -37,7 +34,9 @@ same-length : tie.Need-same-length Inv-loop μ-loop
 same-length c = search needs
 
 returns : tie.Need-returns Inv-loop μ-loop
-returns c = walked-stop 0 _ _ _ _ _ _ (c .before .before .before .before .before .loop .inv .2) (omega arith) _ _ (c .before .before .value-of .ensures) (c .enum-told .given .1) (c .before .before .before .code-at .ensures ∙ sym (codes-at _ _ _ _ (omega arith)))
+returns c =
+    walked-stop 0 _ _ _ _ _ _ (after-enum-told c .at-loop .loop .inv .2) (omega arith) _ _ (after-enum-told c .after-value-of .value-of .ensures)
+    (c .enum-told .given .1) (after-enum-told c .after-code-at .code-at .ensures ∙ sym (codes-at _ _ _ _ (omega arith)))
 
 mul-out : tie.Need-mul-out Inv-loop μ-loop
 mul-out c = search needs
@@ -52,13 +51,18 @@ loop-less : tie.Need-loop-less Inv-loop μ-loop
 loop-less c = search needs
 
 loop-again : tie.Need-loop-again Inv-loop μ-loop
-loop-again c = (c .before .before .before .before .before .before .loop .inv .0, c .before .before .before .before .before .before .loop .inv .1, walked-more 0 _ _ _ _ _ _ (c .before .before .before .before .before .before .loop .inv .2) (omega arith) _ _ _ (c .before .before .before .value-of .ensures) (c .before .x .given .1) (c .before .before .before .before .code-at .ensures ∙ sym (codes-at _ _ _ _ (omega arith))))
+loop-again c = (
+  after-known-told c .at-loop .loop .inv .0,
+  after-known-told c .at-loop .loop .inv .1,
+  walked-more 0 _ _ _ _ _ _ (after-known-told c .at-loop .loop .inv .2) (omega arith) _ _ _ (after-known-told c .after-value-of .value-of .ensures)
+      (after-known-told c .after-x .x .given .1) (after-known-told c .after-code-at .code-at .ensures ∙ sym (codes-at _ _ _ _ (omega arith))),
+)
 
 same-length-2 : tie.Need-same-length-2 Inv-loop μ-loop
 same-length-2 c = search needs
 
 returns-2 : tie.Need-returns-2 Inv-loop μ-loop
-returns-2 c = walked-all 0 _ _ _ _ _ _ (c .before .loop .inv .2) (omega arith)
+returns-2 c = walked-all 0 _ _ _ _ _ _ (after-loop c .at-loop .loop .inv .2) (omega arith)
 
 pub unpack-spec : {M : Type 1} → statement M
 unpack-spec =

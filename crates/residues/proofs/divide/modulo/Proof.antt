@@ -5,8 +5,6 @@ use native.Mathlib.Omega.{arith}
 use borrow.Author.Needs.{needs}
 use Rattle.residues.proofs.divide.modulo.Statement.{statement}
 use Rattle.residues.proofs.divide.modulo.Tie as tie
-use Rattle.residues.proofs.divide.modulo.Reads as reads
-use Rattle.residues.proofs.divide.modulo.Lts as lts
 
 cast-result : tie.Need-cast-result
 cast-result c = search needs

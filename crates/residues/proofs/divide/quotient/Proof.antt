@@ -3,8 +3,6 @@ use Prim.Native.Nat.{ℕ, _/_}
 use borrow.Author.Needs.{needs}
 use Rattle.residues.proofs.divide.quotient.Statement.{statement}
 use Rattle.residues.proofs.divide.quotient.Tie as tie
-use Rattle.residues.proofs.divide.quotient.Reads as reads
-use Rattle.residues.proofs.divide.quotient.Lts as lts
 
 div-result : tie.Need-div-result
 div-result c = search needs

@@ -1,8 +1,6 @@
 use Rattle.residues.proofs.Remainders.{below-once, below-twice}
 use Rattle.residues.proofs.divide.wrap.Statement.{statement}
 use Rattle.residues.proofs.divide.wrap.Tie as tie
-use Rattle.residues.proofs.divide.wrap.Reads as reads
-use Rattle.residues.proofs.divide.wrap.Lts as lts
 
 returns : tie.Need-returns
 returns c = below-once (c .before .args .x) (c .before .args .q) (c .if1 .taken)

@@ -24,13 +24,19 @@ shl-result : tie.Need-shl-result
 shl-result c = omega (arith, few-bits (c .before .before .before .args .p) (c .before .before .before .pre))
 
 rem-result : tie.Need-rem-result
-rem-result c = rw (one-shifted _ (few-bits (c .before .before .before .args .p) (c .before .before .before .pre))) (pow-pos (c .before .before .before .args .p .abits))
+rem-result c =
+    rw (one-shifted _ (few-bits (c .before .before .before .args .p) (c .before .before .before .pre)))
+    (pow-pos (c .before .before .before .args .p .abits))
 
 cast-result-3 : tie.Need-cast-result-3
 cast-result-3 c = omega (arith, mod-le (c .window .result) (1 * 2 ^ c .before .before .before .args .p .abits % 18446744073709551616), c .window .ok)
 
 returns : tie.Need-returns
-returns c = rw (one-shifted _ (few-bits (c .before .before .before .args .p) (c .before .before .before .pre)), c .window .ensures) (group-in-window (c .before .before .before .args .stream .now) (c .before .before .before .args .p .abits) (c .before .before .before .args .p .abytes) (λ k. omega (arith, c .before .before .shared-slice-known .given k)) (c .before .before .before .pre .aBytes) (c .before .before .before .pre .aRoom))
+returns c =
+    rw (one-shifted _ (few-bits (c .before .before .before .args .p) (c .before .before .before .pre)), c .window .ensures)
+    (group-in-window (c .before .before .before .args .stream .now) (c .before .before .before .args .p .abits)
+    (c .before .before .before .args .p .abytes) (λ k. omega (arith, c .before .before .shared-slice-known .given k))
+    (c .before .before .before .pre .aBytes) (c .before .before .before .pre .aRoom))
 
 pub group-spec : {M : Type 1} → statement M
 group-spec =

@@ -1,14 +1,16 @@
+mod Places
 use mathlib.Core.Path.{sym, ap, _∙_}
 use mathlib.Core.Bool.{cond}
 use lib.IntN.{ℤ, pos}
 use lib.ListN.{set}
 use mir.Facts.{toZ-ofZ}
 use Rattle.residues.proofs.Differences.{pos-sub}
-use Rattle.sampling.specs.Engine.{isS, meansS}
+use Rattle.sampling.specs.Inner.{isS, meansS}
 use Rattle.sampling.proofs.Filling.{kept-by}
 use borrow.Author.Needs.{needs}
 use Rattle.sampling.proofs.small.keep.Statement.{statement}
 use Rattle.sampling.proofs.small.keep.Tie as tie
+use Places.{after-counted}
 
 mul-passes : tie.Need-mul-passes
 mul-passes c = search needs
@@ -32,7 +34,17 @@ same-length : tie.Need-same-length
 same-length c = search needs
 
 returns : tie.Need-returns
-returns c = kept-by (pos 0) (isS (c .before .before .before .before .args .p) (c .before .before .before .before .args .v)) (meansS (c .before .before .before .before .args .p) (c .before .before .before .before .args .v)) _ (c .before .before .before .before .args .out .now) _ _ (c .before .before .before .before .pre .1 .2) (c .counted .ensures) (ap (set (c .before .before .before .before .args .out .now) (c .before .before .before .before .args .found)) (toZ-ofZ (record { sfits = c .before .taken-signed .ok }) ∙ c .before .taken-signed .ensures ∙ ap (λ (z : ℤ). cond (isS (c .before .before .before .before .args .p) (c .before .before .before .before .args .v)) z (pos 0)) (toZ-ofZ (record { sfits = c .before .before .difference .ok }) ∙ c .before .before .difference .ensures ∙ sym (pos-sub (c .before .before .before .before .args .p .eta) (c .before .before .before .before .args .v)))))
+returns c =
+    let at = after-counted c in
+    kept-by (pos 0) (isS at.start.args.p at.start.args.v) (meansS at.start.args.p at.start.args.v) _ at.start.args.out.now _ _ at.start.pre.1.2
+    (c .counted .ensures)
+    (ap (set at.start.args.out.now at.start.args.found)
+    (toZ-ofZ (record { sfits = at.after-taken-signed.taken-signed.ok }) ∙
+    at.after-taken-signed.taken-signed.ensures ∙
+    ap (λ (z : ℤ). cond (isS at.start.args.p at.start.args.v) z (pos 0))
+    (toZ-ofZ (record { sfits = at.after-difference.difference.ok }) ∙
+    at.after-difference.difference.ensures ∙
+    sym (pos-sub at.start.args.p.eta at.start.args.v))))
 
 pub keep-spec : {M : Type 1} → statement M
 keep-spec =

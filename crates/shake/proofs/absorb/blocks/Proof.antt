@@ -7,7 +7,7 @@ use borrow.Author.Needs.{needs}
 use lib.ListN.{length, drop}
 use Rattle.keccak.specs.Keccak.{keccak}
 use Rattle.shake.specs.Shake.{absorbed, xored}
-use Rattle.shake.specs.Steps.{block}
+use Rattle.shake.specs.Inner.{block}
 use Rattle.shake.proofs.Blocks.{next-block, no-block}
 use Rattle.shake.proofs.absorb.blocks.Statement.{statement}
 use Rattle.shake.proofs.absorb.blocks.Tie as tie

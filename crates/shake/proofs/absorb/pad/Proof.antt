@@ -21,7 +21,9 @@ slice-write-held-2 : tie.Need-slice-write-held-2
 slice-write-held-2 c = simp length-set (omega arith)
 
 returns : tie.Need-returns
-returns c = pad-made (c .before .before .before .before .before .before .before .args .held .now) (c .before .before .before .before .before .before .before .args .pos) (c .before .before .before .before .before .before .before .pre .0) (c .before .before .before .before .before .before .before .pre .1) (c .before .before .before .copy .ensures)
+returns c = pad-made (c .before .before .before .before .before .before .before .args .held .now)
+    (c .before .before .before .before .before .before .before .args .pos) (c .before .before .before .before .before .before .before .pre .0)
+    (c .before .before .before .before .before .before .before .pre .1) (c .before .before .before .copy .ensures)
 
 pub pad-spec : {M : Type 1} → statement M
 pad-spec =

@@ -6,7 +6,7 @@ use native.Mathlib.Omega.{arith}
 use borrow.Author.Needs.{needs}
 use lib.ListN.{length, take, replicate}
 use lib.Seq.{length-take-le}
-use Rattle.shake.specs.Steps.{put}
+use Rattle.shake.specs.Inner.{put}
 use Rattle.shake.proofs.Squeezed.{stream, block-written, last-written}
 use Rattle.shake.proofs.squeeze.squeeze.Statement.{statement}
 use Rattle.shake.proofs.squeeze.squeeze.Tie as tie
@@ -26,7 +26,8 @@ loop-again : tie.Need-loop-again Inv-loop μ-loop
 loop-again c =
     let n = length (c .before .before .before .before .before .before .before .before .args .out .now) in
     let l = c .before .before .before .before .before .before .loop in
-    let w = block-written n (l .i) (l .out) (stream n (c .before .before .before .before .before .before .before .before .args .a)) (l .s) (l .inv .0) (l .inv .1) (l .inv .2) (omega arith) (c .before .before .before .block .ensures) (c .permute .ensures) in
+    let w = block-written n (l .i) (l .out) (stream n (c .before .before .before .before .before .before .before .before .args .a)) (l .s)
+    (l .inv .0) (l .inv .1) (l .inv .2) (omega arith) (c .before .before .before .block .ensures) (c .permute .ensures) in
     (w .0, omega arith, w .1)
 
 slice-aggregate-block : tie.Need-slice-aggregate-block Inv-loop μ-loop
@@ -48,7 +49,9 @@ unfolding stream
 returns c =
     let n = length (c .before .before .before .before .before .before .before .before .before .before .before .args .out .now) in
     let l = c .before .before .before .before .before .before .before .before .before .loop in
-    last-written n (l .i) (l .out) (stream n (c .before .before .before .before .before .before .before .before .before .before .before .args .a)) (l .s) (l .inv .0) (l .inv .1) (l .inv .2) (replicate 136 0) (omega arith) refl (c .before .before .before .before .before .before .block2 .ensures)
+    last-written n (l .i) (l .out) (stream n (c .before .before .before .before .before .before .before .before .before .before .before .args .a))
+    (l .s) (l .inv .0) (l .inv .1) (l .inv .2) (replicate 136 0) (omega arith) refl
+    (c .before .before .before .before .before .before .block2 .ensures)
     (c .before .before .copy .ensures ∙ ap (λ (k : ℕ). put (l .out) (l .i) (take (k - l .i) (c .before .before .before .before .before .before .block2 .last .1 .0))) (l .inv .0))
 
 pub squeeze-spec : {M : Type 1} → statement M

@@ -1,2 +1,0 @@
--- Elements and bytes.
-pub mod Expanded

@@ -1,3 +1,0 @@
-// Elements of remainders, out to packed bytes and in from streams.
-pub mod bytes;
-pub mod streams;

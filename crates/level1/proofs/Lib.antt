@@ -1,3 +1,0 @@
-pub mod Determined
-pub mod Demand3
-pub mod Carried

@@ -1,1 +1,0 @@
--- The entries of trinomial level 1 cite the scheme's definitions.

@@ -1,0 +1,1 @@
+-- The entries of set 1 cite the scheme's definitions.

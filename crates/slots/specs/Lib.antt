@@ -1,3 +1,0 @@
--- Elements in one lent memory.
-pub mod Slots
-pub mod Elements

@@ -1,0 +1,2 @@
+-- The memory that a call works in.
+pub mod Inner
