@@ -46,9 +46,9 @@
  * on a painted stack, with the archive for x86-64 (`bench/memory --write` measures and fills in this table):
  *
  * stack table begins
- *     ncc_make_keys            83880
- *     ncc_sign                 97080
- *     ncc_check                86584
+ *     ncc_make_keys            83944
+ *     ncc_sign                 93192
+ *     ncc_check                84472
  *     ncc_shake256              2832
  *     ncc_product              42216
  *     ncc_high_bits               64
@@ -61,15 +61,15 @@
  *     ncc_sample_s              4680
  *     ncc_sample_challenge      4680
  *     ncc_pack_t1               4664
- *     ncc_unpack_t1             4808
+ *     ncc_unpack_t1             4776
  *     ncc_pack_t0               4664
- *     ncc_unpack_t0             4808
+ *     ncc_unpack_t0             4760
  *     ncc_pack_s                4664
- *     ncc_unpack_s              4808
+ *     ncc_unpack_s              4760
  *     ncc_pack_z                4664
- *     ncc_unpack_z              4808
+ *     ncc_unpack_z              4760
  *     ncc_pack_w1               4664
- *     ncc_unpack_w1             4808
+ *     ncc_unpack_w1             4760
  * stack table ends
  */
 #ifndef NCC_SIGN_H

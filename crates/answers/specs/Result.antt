@@ -1,5 +1,4 @@
 -- A definition's result: a value, or a refusal (SPEC 10). Checks are written in the order in which they run (SPEC 10.2).
-use Prim.Native.Nat.{ℕ}
 use mathlib.Core.Bool.{Bool, true, false}
 use Rattle.answers.specs.declared.Refusal.{Refusal}
 use Rattle.answers.specs.declared.Answer.{Answer}

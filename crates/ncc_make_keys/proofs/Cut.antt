@@ -1,7 +1,7 @@
 -- What is lent to key making are the bytes of the first seed and all others, however long the input is.
-use mathlib.Core.Path.{_≡_, sym, subst}
+use mathlib.Core.Path.{sym, subst}
 use mathlib.Core.List.{List, []}
-use Prim.Native.Nat.{ℕ, _-_, _≤_, _<_}
+use Prim.Native.Nat.{ℕ, _-_, _<_}
 use native.Mathlib.Omega.{arith}
 use lib.ListN.{length, take, drop, length-drop, drop-of-length-le}
 use lib.Seq.{take-all}
@@ -11,7 +11,6 @@ use Rattle.answers.specs.declared.Report.{Report}
 use Rattle.answers.specs.Result.{outcome}
 use Rattle.shake.specs.Shake.{shake256}
 use Rattle.scheme.specs.Keys.{Pair, makeKeys}
-use Rattle.ncc_make_keys.specs.Input.{keysFrom}
 
 module _ (input publicOut secretOut : List ℕ) (old : Pair) (answer : Report) (held : Pair) where
   abbrev Made : List ℕ → List ℕ → Type 0

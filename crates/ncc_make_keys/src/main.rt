@@ -8,7 +8,6 @@ use sets::set1::Set1;
 ghost use Rattle.outcome.specs.Outcome.{Is};
 ghost use Rattle.answers.specs.Refusals.{reportOf};
 ghost use Rattle.answers.specs.Result.{outcome};
-ghost use Rattle.scheme.specs.Keys.{Pair};
 ghost use Rattle.ncc_make_keys.specs.Input.{keysFrom};
 
 // One byte more than two seeds have, so that a longer input is seen.

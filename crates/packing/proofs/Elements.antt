@@ -6,13 +6,13 @@ use Prim.Native.Nat.{ℕ, zero, suc, _*_, _^_, _<_}
 use native.Mathlib.Nat.{lt-of-lt-of-le}
 use native.Mathlib.Omega.{arith}
 use lib.Dec.{lit<}
-use lib.Pow.{pow-pos, pow-mono}
+use lib.Pow.{pow-mono}
 use lib.ListN.{length, getD, length-map}
 use lib.IntN.{ℤ, pos}
 use Rattle.answers.specs.declared.Refusal.{Refusal}
 use Rattle.answers.specs.Result.{done, _>>_, need}
 use Rattle.digits.specs.Digits.{value, digits, codes, bytes}
-use Rattle.digits.proofs.Numbers.{Below, below-all, length-digits, digits-below, value-lt, value-digits, pow-mul, unpack-pack, pack-unpack-filled, length-bytes}
+use Rattle.digits.proofs.Numbers.{Below, below-all, digits-below, value-lt, value-digits, pow-mul, unpack-pack, pack-unpack-filled, length-bytes}
 use Rattle.digits.proofs.Codes.{below-at}
 use Rattle.packing.specs.declared.layout.Layout.{Layout}
 use Rattle.packing.specs.Layouts.{means, code, allowed, holds, every, size, pack, unpack}

@@ -5,13 +5,10 @@ use Prim.Native.Nat.{ℕ}
 use lib.ListN.{length, replicate}
 use lib.IntN.{ℤ}
 use Rattle.outcome.specs.Outcome.{Is}
-use Rattle.sets.specs.Set.{set1}
-use Rattle.sets.proofs.Five.{good-set1}
 use Rattle.packing.specs.declared.layout.Layout.{Layout}
 use Rattle.packing.specs.declared.unpack.Unpacked.{Unpacked}
-use Rattle.packing.specs.Layouts.{hintLayout, code, holds}
+use Rattle.packing.specs.Layouts.{code, holds}
 use Rattle.packing.specs.Inner.{Readable, takenTo, unpackedTo}
-use Rattle.packing.proofs.Room.{hint-readable}
 use Rattle.packing.proofs.Packs.{Coding, Decoding, taken-as, unpacked-as}
 
 abbrev zeros : List ℕ

@@ -6,7 +6,6 @@ use answers::Buffer;
 use answers::Field;
 use answers::Refusal;
 use sets::set1::Set1;
-ghost use mathlib.Core.Path.{_≡_};
 ghost use Rattle.outcome.specs.Outcome.{Is};
 ghost use Rattle.sets.specs.Set.{set1};
 ghost use Rattle.answers.specs.Refusals.{reportOf};

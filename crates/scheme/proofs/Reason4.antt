@@ -26,7 +26,7 @@ use Rattle.packing.proofs.Wholes.{secret-parts}
 use Rattle.sampling.specs.Samplers.{Drawn, drew, dry}
 use Rattle.streams.specs.Streams.{Hash, expandA, expandC}
 use Rattle.scheme.specs.Elements.{lows}
-use Rattle.scheme.specs.Try.{Reason, ZLarge, LowLarge, Ct0Large, ManyOnes, reasonNumber, Try, passes, fails, Signer, response, masked, hints, judged, try}
+use Rattle.scheme.specs.Try.{ZLarge, LowLarge, Ct0Large, ManyOnes, reasonNumber, Try, passes, fails, Signer, response, masked, hints, judged, try}
 use Rattle.scheme.specs.Sign.{Key, readKey, readSigner}
 use Rattle.scheme.proofs.Agree.{small-product, length-mul}
 use Rattle.scheme.proofs.Accepts.{few-drawn}

@@ -8,9 +8,9 @@ use lib.IntN.{ℤ, pos}
 use Rattle.sets.specs.Set.{messageMax, Set}
 use Rattle.answers.specs.declared.Buffer.the-variants.{PublicKey as PublicBuffer, Signature as SignatureBuffer}
 use Rattle.answers.specs.declared.Refusal.the-variants.{Length, LongMessage, Differs}
-use Rattle.answers.specs.Result.{Result, done, _>>=_, _>>_, need}
+use Rattle.answers.specs.Result.{Result, _>>=_, _>>_, need}
 use Rattle.ring.specs.Profile.{mul}
-use Rattle.packing.specs.Parts.{PublicKey, Signature, readPublic, readSignature, publicSize, signatureSize}
+use Rattle.packing.specs.Parts.{readPublic, readSignature, publicSize, signatureSize}
 use Rattle.sampling.specs.Samplers.{drawn}
 use Rattle.streams.specs.Streams.{Hash, expandA, expandC}
 use Rattle.scheme.specs.Elements.{minus, scaled, useHints}

@@ -6,11 +6,11 @@ use Prim.Native.Nat.{ℕ, _≤_, _<_}
 use lib.ListN.{length}
 use Rattle.sets.specs.Set.{messageMax, tryMax, Set}
 use Rattle.answers.specs.declared.Refusal.the-variants.{Spent}
-use Rattle.answers.specs.Result.{Result, done, refused}
+use Rattle.answers.specs.Result.{done, refused}
 use Rattle.packing.specs.Parts.{signatureSize}
 use Rattle.streams.specs.Streams.{Hash}
 use Rattle.scheme.specs.Keys.{Pair, makeKeys}
-use Rattle.scheme.specs.Try.{Reason, Try, fails, Signer, try}
+use Rattle.scheme.specs.Try.{Reason, fails, Signer, try}
 use Rattle.scheme.specs.Sign.{Signed, rhoOf, readSigner, signWith, sign}
 use Rattle.scheme.specs.Check.{check}
 

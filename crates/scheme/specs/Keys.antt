@@ -10,7 +10,7 @@ use Rattle.answers.specs.declared.Refusal.the-variants.{Length}
 use Rattle.answers.specs.Result.{Result, done, _>>=_, _>>_, need}
 use Rattle.ring.specs.Profile.{mul}
 use Rattle.packing.specs.declared.parts.Part.the-variants as part
-use Rattle.packing.specs.Parts.{PublicKey, SecretKey, packPublic, packSecret, bytesOf, publicSize, secretSize, seedsSize}
+use Rattle.packing.specs.Parts.{packPublic, packSecret, bytesOf, publicSize, secretSize, seedsSize}
 use Rattle.streams.specs.Streams.{Hash, expandA, expandS}
 use Rattle.scheme.specs.Elements.{plus, powerHighs, powerLows}
 

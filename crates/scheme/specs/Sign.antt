@@ -1,6 +1,6 @@
 -- Deterministic signing with a cap on tries (SPEC 8).
 use Prim.Native.Nat.{ℕ, zero, suc, _+_}
-use mathlib.Core.Bool.{Bool, cond, _&&_}
+use mathlib.Core.Bool.{cond, _&&_}
 use mathlib.Core.List.{List, _++_}
 use lib.Dec.{eqb, leb}
 use lib.ListN.{length}
@@ -13,7 +13,7 @@ use Rattle.answers.specs.declared.Report.{Report}
 use Rattle.answers.specs.Refusals.{doneReport, refusalNumber, refusalReport}
 use Rattle.answers.specs.Result.{Result, done, refused, _>>=_, _>>_, need}
 use Rattle.packing.specs.declared.parts.Part.the-variants as part
-use Rattle.packing.specs.Parts.{SecretKey, readSecret, bytesOf, secretSize, signatureSize}
+use Rattle.packing.specs.Parts.{readSecret, bytesOf, secretSize, signatureSize}
 use Rattle.streams.specs.Streams.{Hash, expandA}
 use Rattle.scheme.specs.Try.{Try, passes, fails, Signer, try}
 

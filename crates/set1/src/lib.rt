@@ -8,7 +8,7 @@ ghost use Rattle.answers.specs.Refusals.{reportOf, signingReport};
 ghost use Rattle.answers.specs.Result.{outcome, told};
 ghost use Rattle.shake.specs.Shake.{shake256};
 ghost use Rattle.scheme.specs.Check.{check};
-ghost use Rattle.scheme.specs.Keys.{Pair, makeKeys};
+ghost use Rattle.scheme.specs.Keys.{makeKeys};
 ghost use Rattle.scheme.specs.Sign.{signOutcome, sign};
 ghost use Rattle.sets.specs.Set.{set1};
 

@@ -1,7 +1,7 @@
 -- What is asked of a set (SPEC 1.5). The laws hold for every set that meets it, and the code's sums, casts and shifts are safe for it.
 -- Each condition is one on numbers, so that a set is shown to meet them by computing.
 use mathlib.Core.Path.{_≡_}
-use Prim.Native.Nat.{ℕ, _+_, _-_, _*_, _/_, _%_, _^_, _≤_, _<_}
+use Prim.Native.Nat.{_+_, _-_, _*_, _/_, _^_, _≤_, _<_}
 use Rattle.sets.specs.declared.numbers.Ring.the-variants as ring
 use Rattle.sets.specs.Set.{Set, alpha, steps, capacity, streamCapacity, w1Capacity}
 

@@ -1,5 +1,5 @@
 -- How a signing call ends.
-use mathlib.Core.Path.{_≡_, refl, sym, ap, subst, _∙_}
+use mathlib.Core.Path.{_≡_, sym, ap, subst, _∙_}
 use mathlib.Core.List.{List, [], _++_, append-nil}
 use Prim.Native.Nat.{ℕ}
 use Rattle.outcome.specs.Outcome.{Is}
@@ -17,7 +17,7 @@ use Rattle.scheme.specs.Try.{Signer, try}
 use Rattle.scheme.specs.Sign.{Signed, Key, mu, muOf, rhoOf, signerWith, firstPass, readKey, countAt, signTold, signLeft, signOutcome}
 use Rattle.tries.specs.declared.Tried.{Tried}
 use Rattle.tries.specs.declared.Tried.the-variants.{Passed, Spent}
-use Rattle.tries.specs.Inner.{keyIn, signerIn, Passes, Found}
+use Rattle.tries.specs.Inner.{signerIn, Passes, Found}
 use Rattle.signing.specs.Inner.{KeyHeld, signedFrom}
 use Rattle.signing.proofs.Refusals.{key-count}
 

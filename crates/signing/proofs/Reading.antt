@@ -12,7 +12,7 @@ use Rattle.answers.specs.declared.Refusal.{Refusal}
 use Rattle.answers.specs.declared.Refusal.the-variants.{Coefficient}
 use Rattle.answers.specs.declared.Answer.{Answer}
 use Rattle.answers.specs.declared.Answer.the-variants.{Done, Refused}
-use Rattle.answers.specs.Result.{done, refused}
+use Rattle.answers.specs.Result.{done}
 use Rattle.answers.specs.Inner.{Gives}
 use Rattle.answers.proofs.Outcomes.{stops, gives}
 use Rattle.answers.proofs.Giving.{bind-ill, bind-well, gives-then}
@@ -21,8 +21,7 @@ use Rattle.residues.proofs.Remainders.{residue-small}
 use Rattle.rounding.proofs.Congruent.{q-pos}
 use Rattle.shake.specs.Shake.{shake256}
 use Rattle.packing.specs.declared.parts.Part.the-variants as part
-use Rattle.packing.specs.Layouts.{layoutOf}
-use Rattle.packing.specs.Parts.{SecretKey, bytesOf, fieldIn, readSecret}
+use Rattle.packing.specs.Parts.{bytesOf, fieldIn, readSecret}
 use Rattle.packing.proofs.Room.{field-readable}
 use Rattle.streams.specs.Streams.{expandA}
 use Rattle.streams.proofs.Drawn.{expanded-a}

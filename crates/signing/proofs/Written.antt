@@ -4,7 +4,6 @@ use mathlib.Core.List.{List, [], _∷_}
 use Prim.Native.Nat.{ℕ}
 use native.Mathlib.Omega.{arith}
 use lib.Dec.{lit≤}
-use lib.IntN.{ℤ}
 use lib.ListN.{length}
 use Rattle.sets.specs.Set.{Set, hashSize}
 use Rattle.sets.specs.Good.{Trinomial}

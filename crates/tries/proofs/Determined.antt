@@ -1,6 +1,6 @@
 -- The public contract of this crate permits one answer. The lent memory and the commitment are scratch of the tries, and the caller takes them up only where a try passed.
 use mathlib.Core.Path.{_≡_, refl, sym, ap, _∙_}
-use Prim.Native.Nat.{ℕ, _+_}
+use Prim.Native.Nat.{ℕ}
 use native.Mathlib.Omega.{arith}
 use mathlib.Core.List.{List}
 use Rattle.outcome.proofs.One.{One}

@@ -5,7 +5,6 @@ use mathlib.Core.List.{List}
 use Prim.Native.Nat.{ℕ, _-_, _≤_, _<_}
 use borrow.Author.Tests.{le-leb, lt-leb}
 use lib.Dec.{leb}
-use lib.IntN.{ℤ}
 use Rattle.sets.specs.Set.{Set}
 use Rattle.rounding.specs.Rounding.{norm}
 use Rattle.shake.specs.Shake.{shake256}

@@ -1,11 +1,11 @@
 -- The memory of signing from stage to stage: what it holds, and what the next stage adds.
 use mathlib.Core.Path.{_≡_, refl, sym, ap, ap₂, subst, _∙_}
 use mathlib.Core.List.{List, [], _∷_, _++_, map}
-use Prim.Native.Nat.{ℕ, zero, suc, _≤_, _<_}
+use Prim.Native.Nat.{ℕ, suc, _≤_, _<_}
 use native.Mathlib.Omega.{arith}
 use native.Mathlib.Decide.{ℕ-discrete}
 use lib.Dec.{lit≤, lit<}
-use lib.IntN.{ℤ, pos}
+use lib.IntN.{ℤ}
 use lib.ListN.{length, getD, drop, length-map, List·getD-append}
 use Rattle.sets.specs.Set.{Set}
 use Rattle.sets.specs.Good.{Trinomial}
@@ -16,8 +16,7 @@ use Rattle.ring.specs.Profile.{mul}
 use Rattle.ring.specs.Inner.{Residues}
 use Rattle.shake.specs.Shake.{shake256}
 use Rattle.streams.specs.Streams.{expandY}
-use Rattle.scheme.specs.Elements.{highs}
-use Rattle.scheme.specs.Try.{Signer, commit}
+use Rattle.scheme.specs.Try.{Signer}
 use Rattle.workspace.specs.declared.Place.{Place}
 use Rattle.workspace.specs.declared.Place.the-variants as place
 use Rattle.workspace.specs.declared.arithmetic.Op.the-variants as op

@@ -1,7 +1,7 @@
 -- The tries: what holds at the head of each, and what each end of it gives.
 use mathlib.Core.Path.{_≡_, refl, sym, ap, subst, _∙_}
 use mathlib.Core.List.{List, [], map}
-use Prim.Native.Nat.{ℕ, suc, _+_, _-_, _*_, _≤_, _<_}
+use Prim.Native.Nat.{ℕ, suc, _+_, _-_, _≤_, _<_}
 use native.Mathlib.Nat.{sub-zero}
 use native.Mathlib.Numerals.{add-one}
 use native.Mathlib.Omega.{arith}
@@ -11,7 +11,7 @@ use lib.ListN.{length, getD}
 use Rattle.sets.specs.Set.{Set}
 use Rattle.sets.specs.Good.{Trinomial}
 use Rattle.answers.specs.declared.Refusal.the-variants.{Spent as SpentTries}
-use Rattle.answers.specs.Result.{Result, done, refused}
+use Rattle.answers.specs.Result.{done, refused}
 use Rattle.answers.proofs.Results.{not-done}
 use Rattle.residues.specs.Remainder.{residue}
 use Rattle.residues.proofs.Remainders.{residue-small}
@@ -27,14 +27,12 @@ use Rattle.ring.proofs.Lists.{map-tab, tab-cong, at-tab, past-tab}
 use Rattle.sampling.specs.Samplers.{Drawn, drew, dry, drawn}
 use Rattle.streams.specs.Streams.{expandC}
 use Rattle.sampling.proofs.Drawing.{drawn-done}
-use Rattle.sampling.proofs.Sparse.{sparse-challenge}
 use Rattle.answers.specs.declared.Refusal.{Refusal}
 use Rattle.answers.specs.declared.Answer.{Answer}
 use Rattle.answers.specs.declared.Answer.the-variants.{Done, Refused}
 use Rattle.workspace.specs.declared.Place.{Place}
 use Rattle.workspace.specs.declared.Place.the-variants as place
-use Rattle.workspace.specs.Inner.{at, slot, Room, Touched, Holds, Ready, Fills}
-use Rattle.workspace.proofs.Holding.{room-kept}
+use Rattle.workspace.specs.Inner.{at, slot, Touched, Holds, Ready, Fills}
 use Rattle.scheme.specs.Elements.{plus, negated, highs, makeHints}
 use Rattle.scheme.specs.Try.{Try, passes, fails, Reason, Signer, commit, masked, hints, try}
 use Rattle.scheme.specs.Sign.{firstPass, orNext}

@@ -6,7 +6,7 @@ use lib.IntN.{ℤ, pos}
 use lib.ListN.{getD}
 use Rattle.sets.specs.Set.{Set}
 use Rattle.answers.specs.declared.Refusal.the-variants.{Spent as SpentTries}
-use Rattle.answers.specs.Result.{Result, done, refused}
+use Rattle.answers.specs.Result.{done, refused}
 use Rattle.rounding.specs.Rounding.{norm}
 use Rattle.shake.specs.Shake.{shake256}
 use Rattle.packing.specs.Parts.{packSignature}
@@ -14,7 +14,7 @@ use Rattle.ring.specs.Profile.{mul}
 use Rattle.streams.specs.Streams.{expandY}
 use Rattle.scheme.specs.Elements.{plus}
 use Rattle.scheme.specs.Try.{Signer, response, masked, hints, try}
-use Rattle.scheme.specs.Sign.{Signed, Key, signerWith, firstPass}
+use Rattle.scheme.specs.Sign.{Key, signerWith, firstPass}
 use Rattle.workspace.specs.declared.Place.{Place}
 use Rattle.workspace.specs.declared.Place.the-variants as place
 use Rattle.workspace.specs.Inner.{at, slot, Holds, values}

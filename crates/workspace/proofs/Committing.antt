@@ -1,8 +1,7 @@
 -- The packed w1, and the hash over it. W is w1's layout as the code has made it.
-use mathlib.Core.Path.{_≡_, refl, sym, ap, subst, _∙_}
+use mathlib.Core.Path.{_≡_, sym, ap, subst, _∙_}
 use mathlib.Core.List.{List, _++_, append-nil, []}
 use Prim.Native.Nat.{ℕ, _≤_}
-use lib.ListN.{length}
 use Rattle.sets.specs.Set.{Set, hashSize, w1Capacity}
 use Rattle.sets.specs.Good.{Good, Trinomial}
 use Rattle.shake.specs.Shake.{shake256}

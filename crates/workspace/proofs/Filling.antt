@@ -1,8 +1,8 @@
 -- A place that is lent as a part of the memory: it comes back filled, and it is read.
-use mathlib.Core.Path.{_≡_, refl, sym, ap, subst, _∙_}
+use mathlib.Core.Path.{_≡_, sym, ap, subst, _∙_}
 use mathlib.Core.Bool.{true}
 use mathlib.Core.List.{List, map}
-use Prim.Native.Nat.{ℕ, _+_, _-_, _*_, _≤_, _<_}
+use Prim.Native.Nat.{ℕ, _+_, _-_, _≤_, _<_}
 use native.Mathlib.Omega.{arith}
 use lib.IntN.{ℤ}
 use lib.ListN.{length, getD, take, drop, length-map}
@@ -12,16 +12,13 @@ use Rattle.sets.specs.Set.{Set, capacity}
 use Rattle.sets.specs.Good.{Trinomial}
 use Rattle.answers.specs.declared.Refusal.{Refusal}
 use Rattle.answers.specs.declared.Answer.{Answer}
-use Rattle.answers.specs.declared.Answer.the-variants.{Done, Refused}
-use Rattle.answers.specs.Result.{Result, done, refused}
+use Rattle.answers.specs.Result.{Result}
 use Rattle.answers.specs.Inner.{Gives}
 use Rattle.answers.proofs.Giving.{gives-well, gives-ill, gives-as}
 use Rattle.residues.specs.Remainder.{residue, signed}
-use Rattle.ring.specs.Inner.{Residues}
 use Rattle.buffers.specs.Buffers.{overlay}
 use Rattle.buffers.proofs.Copies.{overlay-all}
 use Rattle.digits.specs.Digits.{codes}
-use Rattle.digits.proofs.Codes.{length-codes}
 use Rattle.packing.specs.declared.layout.Layout.{Layout}
 use Rattle.packing.specs.declared.unpack.Unpacked.{Unpacked}
 use Rattle.packing.specs.declared.unpack.Unpacked.the-variants.{All, BadAt}
@@ -30,7 +27,7 @@ use Rattle.packing.specs.Inner.{Readable, scan, remainders, unpackedTo, written
 use Rattle.packing.proofs.Reading.{residues-means, unpack-all, unpack-bad}
 use Rattle.workspace.specs.declared.Place.{Place}
 use Rattle.workspace.specs.Inner.{at, slot, Spans, Room, Touched, Holds, values, Packable, Fills, answerWith}
-use Rattle.workspace.proofs.Memory.{Wrote, within, length-element, wrote-part, part-is}
+use Rattle.workspace.proofs.Memory.{Wrote, within, length-element, wrote-part}
 
 touched : {p : Set} {k : Place} {new work more : List ℕ} → Wrote (p .n) (at k) new work more → Touched p k work more
 touched w = record { long = w .long; kept = w .kept }

@@ -1,13 +1,13 @@
 -- What places hold, from step to step.
-use mathlib.Core.Path.{_≡_, refl, sym, ap, subst, _∙_}
+use mathlib.Core.Path.{_≡_, sym, subst, _∙_}
 use mathlib.Core.List.{List, [], _∷_, map}
-use Prim.Native.Nat.{ℕ, zero, suc, _*_, _≤_, _<_}
+use Prim.Native.Nat.{ℕ, zero, suc, _≤_, _<_}
 use native.Mathlib.Omega.{arith}
 use native.Mathlib.Decide.{ℕ-discrete}
-use lib.IntN.{ℤ, pos, natAbs}
-use lib.ListN.{length, getD, length-map}
+use lib.IntN.{ℤ, pos}
+use lib.ListN.{getD, length-map}
 use Rattle.sets.specs.Set.{Set}
-use Rattle.sets.specs.Good.{Good, Trinomial}
+use Rattle.sets.specs.Good.{Good}
 use Rattle.residues.specs.Remainder.{residue}
 use Rattle.residues.proofs.Remainders.{residue-lt}
 use Rattle.rounding.proofs.Congruent.{q-pos}

@@ -2,7 +2,6 @@
 use crate::Place;
 use answers::Answer;
 use sets::numbers::Numbers;
-ghost use mathlib.Core.Path.{_≡_};
 ghost use Prim.Native.Nat.{_^_, _<_};
 ghost use Rattle.sets.specs.Good.{Trinomial};
 ghost use Rattle.shake.specs.Shake.{shake256};

@@ -1,14 +1,11 @@
 mod Places
-use mathlib.Core.Path.{refl, sym, _∙_}
+use mathlib.Core.Path.{sym, _∙_}
 use native.Mathlib.Omega.{arith}
 use Rattle.shake.specs.Shake.{shake256}
 use Rattle.checking.proofs.Order.{answers-refused, wrong-public, wrong-signature, long-message, refused-inputs, with-inputs}
 use borrow.Author.Needs.{needs}
 use Rattle.checking.proofs.check.Statement.{statement}
 use Rattle.checking.proofs.check.Tie as tie
-use Rattle.checking.proofs.compare.Reads as compare-reads
-use Rattle.checking.proofs.load.Reads as load-reads
-use Rattle.packing.proofs.parts.Whole.size.Reads as size-reads
 use Places.{public-wrong, signature-wrong, message-long, load-refused, after-compare-arg, done}
 
 -- place public-wrong = Then1

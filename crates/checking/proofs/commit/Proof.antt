@@ -4,9 +4,6 @@ use Rattle.checking.proofs.Comparing.{commit-is}
 use borrow.Author.Needs.{needs}
 use Rattle.checking.proofs.commit.Statement.{statement}
 use Rattle.checking.proofs.commit.Tie as tie
-use Rattle.shake.proofs.shake256.Reads as shake256-reads
-use Rattle.workspace.proofs.commitment.commit.Reads as commit-reads
-use Rattle.workspace.proofs.commitment.mu.Reads as mu-reads
 use Places.{done}
 
 -- place ph-done = After-shake256

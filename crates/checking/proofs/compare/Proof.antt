@@ -10,10 +10,6 @@ use Rattle.checking.proofs.Comparing.{is-same, is-other}
 use borrow.Author.Needs.{needs}
 use Rattle.checking.proofs.compare.Statement.{statement}
 use Rattle.checking.proofs.compare.Tie as tie
-use Rattle.checking.proofs.commit.Reads as commit-reads
-use Rattle.checking.proofs.recompute.Reads as recompute-reads
-use Rattle.checking.proofs.same.Reads as same-reads
-use Rattle.packing.proofs.parts.Part.of.Reads as of-reads
 use Places.{after-expected, after-expected3, same-bytes, other-bytes}
 
 -- place high = After-recompute

@@ -5,11 +5,6 @@ use Rattle.checking.proofs.Loading.{no-t1, no-z, no-hints, no-a, all-th
 use borrow.Author.Needs.{needs}
 use Rattle.checking.proofs.load.Statement.{statement}
 use Rattle.checking.proofs.load.Tie as tie
-use Rattle.packing.proofs.parts.Part.of.Reads as of-reads
-use Rattle.workspace.proofs.drawing.fill_a.Reads as fill-a-reads
-use Rattle.workspace.proofs.drawing.fill_c.Reads as fill-c-reads
-use Rattle.workspace.proofs.reading.read_field.Reads as read-field-reads
-use Rattle.workspace.proofs.reading.read_hints.Reads as read-hints-reads
 use Places.{t1-refused, z-refused, hints-refused, a-refused, a-done, after-fill-c-arg, done}
 
 -- place t1-read = After-read-field

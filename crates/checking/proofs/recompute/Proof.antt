@@ -3,8 +3,6 @@ use Rattle.checking.proofs.Recomputing.{asks-az, asks-ct, asks-less, as
 use borrow.Author.Needs.{needs}
 use Rattle.checking.proofs.recompute.Statement.{statement}
 use Rattle.checking.proofs.recompute.Tie as tie
-use Rattle.workspace.proofs.arithmetic.combine.Reads as combine-reads
-use Rattle.workspace.proofs.arithmetic.multiply.Reads as multiply-reads
 use Places.{after-multiply-arg, after-multiply-arg2, after-combine-arg, after-combine-arg2, done}
 
 -- place az = After-multiply

@@ -1,7 +1,6 @@
 mod Places
-use mathlib.Core.Path.{sym, ap, subst, _∙_}
-use mathlib.Core.List.{List, append-nil}
-use Prim.Native.Nat.{ℕ}
+use mathlib.Core.Path.{sym, ap, _∙_}
+use mathlib.Core.List.{append-nil}
 use lib.ListN.{length}
 use Rattle.answers.proofs.Outcomes.{refusing}
 use Rattle.shake.specs.Shake.{shake256}

@@ -1,6 +1,6 @@
 mod Places
 use Rattle.packing.proofs.WholesFirst.{public-size, signature-size}
-use mathlib.Core.Path.{_≡_, sym, _∙_}
+use mathlib.Core.Path.{sym, _∙_}
 use native.Mathlib.Omega.{arith}
 use lib.Seq.{length-take-le}
 use Rattle.ncc_check.proofs.Lengths.{short-is-1, whole}

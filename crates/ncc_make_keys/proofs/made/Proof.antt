@@ -1,5 +1,5 @@
 mod Places
-use mathlib.Core.Path.{_≡_, sym}
+use mathlib.Core.Path.{sym}
 use native.Mathlib.Omega.{arith}
 use lib.Seq.{length-take-le}
 use Rattle.answers.specs.Refusals.{reportOf}

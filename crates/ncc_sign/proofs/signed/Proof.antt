@@ -1,6 +1,6 @@
 mod Places
 use Rattle.packing.proofs.WholesFirst.{secret-size}
-use mathlib.Core.Path.{_≡_, sym}
+use mathlib.Core.Path.{sym}
 use native.Mathlib.Omega.{arith}
 use lib.Seq.{length-take-le}
 use Rattle.answers.specs.Refusals.{signingReport}

@@ -1,7 +1,6 @@
 mod Places
 use mathlib.Core.Path.{refl, _∙_}
 use native.Mathlib.Omega.{arith}
-use Rattle.workspace.proofs.Holding.{room-kept}
 use Rattle.signing.proofs.Outcomes.{refuses, signs, from-bad, from-good, found-spent, found-passed}
 use Rattle.signing.proofs.Written.{both-packable, is-signature}
 use Rattle.answers.specs.declared.Refusal.the-variants.{Spent as SpentTries}

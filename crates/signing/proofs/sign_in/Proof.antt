@@ -1,12 +1,12 @@
 mod Places
 use Rattle.signing.proofs.Outcomes.{mu-is, rho-is}
-use mathlib.Core.Path.{_≡_, sym, ap, subst, _∙_}
-use mathlib.Core.List.{List, append-nil}
+use mathlib.Core.Path.{subst}
+use mathlib.Core.List.{List}
 use Prim.Native.Nat.{ℕ}
 use Rattle.outcome.specs.Outcome.{Is}
 use Rattle.answers.specs.Refusals.{signingReport}
 use Rattle.shake.specs.Shake.{shake256}
-use Rattle.scheme.specs.Sign.{muOf, rhoOf, signOutcome}
+use Rattle.scheme.specs.Sign.{signOutcome}
 use Rattle.signing.specs.Inner.{signedFrom}
 use borrow.Author.Needs.{needs}
 use Rattle.signing.proofs.sign_in.Statement.{statement}

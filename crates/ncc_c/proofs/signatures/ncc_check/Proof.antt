@@ -7,10 +7,6 @@ use native.Mathlib.Omega.{arith}
 use borrow.Author.Needs.{needs}
 use Rattle.ncc_c.proofs.signatures.ncc_check.Statement.{statement}
 use Rattle.ncc_c.proofs.signatures.ncc_check.Tie as tie
-use Rattle.ncc_c.proofs.signatures.ncc_check.Reads as reads
-use Rattle.ncc_c.proofs.signatures.ncc_check.Lts as lts
-use Rattle.set1.proofs.check.Reads as check-reads
-use Rattle.ncc_c.proofs.answer.answer.Reads as answer-reads
 use Rattle.sets.specs.Set.{set1}
 
 -- src/signatures.rt:35:27

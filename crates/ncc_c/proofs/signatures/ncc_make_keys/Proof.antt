@@ -6,10 +6,6 @@ use native.Mathlib.Omega.{arith}
 use borrow.Author.Needs.{needs}
 use Rattle.ncc_c.proofs.signatures.ncc_make_keys.Statement.{statement}
 use Rattle.ncc_c.proofs.signatures.ncc_make_keys.Tie as tie
-use Rattle.ncc_c.proofs.signatures.ncc_make_keys.Reads as reads
-use Rattle.ncc_c.proofs.signatures.ncc_make_keys.Lts as lts
-use Rattle.set1.proofs.make_keys.Reads as make-keys-reads
-use Rattle.ncc_c.proofs.answer.answer.Reads as answer-reads
 use Rattle.sets.specs.Set.{set1}
 use Places.{after-slice-known4, after-answer}
 

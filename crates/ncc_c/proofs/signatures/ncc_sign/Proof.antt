@@ -6,10 +6,6 @@ use native.Mathlib.Omega.{arith}
 use borrow.Author.Needs.{needs}
 use Rattle.ncc_c.proofs.signatures.ncc_sign.Statement.{statement}
 use Rattle.ncc_c.proofs.signatures.ncc_sign.Tie as tie
-use Rattle.ncc_c.proofs.signatures.ncc_sign.Reads as reads
-use Rattle.ncc_c.proofs.signatures.ncc_sign.Lts as lts
-use Rattle.set1.proofs.sign.Reads as sign-reads
-use Rattle.ncc_c.proofs.answer.signed.Reads as signed-reads
 use Rattle.sets.specs.Set.{set1}
 use Places.{after-slice-known2, after-signed}
 

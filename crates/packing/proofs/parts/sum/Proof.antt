@@ -2,7 +2,7 @@ use mathlib.Core.Path.{_≡_, refl, sym, ap, _∙_}
 use Prim.Native.Nat.{ℕ, _+_, _*_, _-_, _≤_}
 use native.Mathlib.Omega.{arith}
 use native.Mathlib.Numerals.{add-one}
-use lib.ListN.{length, getD, take}
+use lib.ListN.{getD, take}
 use Rattle.packing.specs.Parts.{total}
 use Rattle.packing.proofs.Standing.{total-next}
 use Rattle.packing.proofs.parts.sum.Statement.{statement}

@@ -2,7 +2,7 @@
 -- place held = After-enum-told2: each is 0 or 1
 -- place counted = After-count-ones
 mod Places
-use mathlib.Core.Path.{_≡_, sym, _∙_}
+use mathlib.Core.Path.{sym, _∙_}
 use native.Mathlib.Omega.{arith}
 use lib.Dec.{lit≤}
 use Rattle.sets.specs.Set.{set1}

@@ -1,14 +1,10 @@
 mod Invariants
 mod Places
 use mathlib.Core.Path.{sym, _∙_}
-use Prim.Native.Nat.{_-_, _≤_}
+use Prim.Native.Nat.{_-_}
 use native.Mathlib.Omega.{arith}
-use lib.ListN.{length}
-use Rattle.digits.specs.Digits.{codes}
 use Rattle.digits.proofs.Codes.{length-codes, codes-at}
-use Rattle.packing.specs.Layouts.{allowed}
-use Rattle.packing.specs.Inner.{Readable, remainder}
-use Rattle.packing.proofs.Scans.{Walked, walked-none, walked-more, walked-stop, walked-all}
+use Rattle.packing.proofs.Scans.{walked-none, walked-more, walked-stop, walked-all}
 use borrow.Author.Needs.{needs}
 use Rattle.packing.proofs.unpack.unpack.Statement.{statement}
 use Rattle.packing.proofs.unpack.unpack.Tie as tie

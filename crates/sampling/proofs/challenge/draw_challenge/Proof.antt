@@ -1,16 +1,15 @@
 mod Invariants
 mod Places
 use mathlib.Core.Path.{ap, _∙_}
-use Prim.Native.Nat.{ℕ, _+_, _-_, _%_}
+use Prim.Native.Nat.{ℕ, _-_, _%_}
 use native.Mathlib.Omega.{arith}
 use lib.Pow.{pow-pos}
 use mir.Facts.{toZ-ofZ}
 use lib.IntN.{pos}
-use lib.ListN.{length, getD, take, drop, set, replicate}
-use Rattle.sets.specs.Good.{Good}
+use lib.ListN.{getD, take, drop, set, replicate}
 use Rattle.digits.specs.Digits.{value}
 use Rattle.sampling.proofs.Reading.{one-shifted}
-use Rattle.sampling.proofs.Stepping.{Stepping, stepping-none, stepping-all, stepping-dry, stepping-used, stepping-again}
+use Rattle.sampling.proofs.Stepping.{stepping-none, stepping-all, stepping-dry, stepping-used, stepping-again}
 use borrow.Author.Needs.{needs}
 use Rattle.sampling.proofs.challenge.draw_challenge.Statement.{statement}
 use Rattle.sampling.proofs.challenge.draw_challenge.Tie as tie

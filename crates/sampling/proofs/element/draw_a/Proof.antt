@@ -3,10 +3,9 @@ mod Places
 use mathlib.Core.Path.{ap, _∙_}
 use Prim.Native.Nat.{ℕ, _-_}
 use native.Mathlib.Omega.{arith}
-use lib.ListN.{length, replicate}
-use Rattle.sets.specs.Good.{Good}
+use lib.ListN.{replicate}
 use Rattle.sampling.proofs.Bounds.{some-bytes}
-use Rattle.sampling.proofs.Going.{going-none, GoingA, a-more, a-dry, a-all}
+use Rattle.sampling.proofs.Going.{going-none, a-more, a-dry, a-all}
 use borrow.Author.Needs.{needs}
 use Rattle.sampling.proofs.element.draw_a.Statement.{statement}
 use Rattle.sampling.proofs.element.draw_a.Tie as tie

@@ -4,9 +4,8 @@ use mathlib.Core.Path.{ap, _∙_}
 use Prim.Native.Nat.{ℕ, _-_}
 use native.Mathlib.Omega.{arith}
 use lib.IntN.{pos}
-use lib.ListN.{length, replicate}
-use Rattle.sets.specs.Good.{Good}
-use Rattle.sampling.proofs.Going.{going-none, GoingS, s-more, s-dry, s-all}
+use lib.ListN.{replicate}
+use Rattle.sampling.proofs.Going.{going-none, s-more, s-dry, s-all}
 use borrow.Author.Needs.{needs}
 use Rattle.sampling.proofs.small.draw_s.Statement.{statement}
 use Rattle.sampling.proofs.small.draw_s.Tie as tie

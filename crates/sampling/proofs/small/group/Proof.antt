@@ -5,9 +5,8 @@ use Prim.Native.Nat.{ℕ, _-_, _%_}
 use native.Mathlib.Omega.{arith}
 use lib.Pow.{pow-pos}
 use Rattle.digits.proofs.Windows.{one-shifted}
-use Rattle.sets.specs.Good.{Good}
 use Rattle.sampling.proofs.Reading.{code-below}
-use Rattle.sampling.proofs.Taking.{Taking, taking-none, taking-full, taking-all, taking-more}
+use Rattle.sampling.proofs.Taking.{taking-none, taking-full, taking-all, taking-more}
 use borrow.Author.Needs.{needs}
 use Rattle.sampling.proofs.small.group.Statement.{statement}
 use Rattle.sampling.proofs.small.group.Tie as tie

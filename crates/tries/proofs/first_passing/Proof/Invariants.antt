@@ -1,5 +1,5 @@
 -- What each loop keeps, and what falls at each turn.
-use Prim.Native.Nat.{ℕ, _+_, _-_, _*_, _≤_, _<_}
+use Prim.Native.Nat.{ℕ, _+_, _-_, _≤_, _<_}
 use lib.IntN.{pos, natAbs}
 use lib.ListN.{getD}
 use Rattle.residues.specs.Remainder.{signed}

@@ -1,14 +1,12 @@
 mod Invariants
 mod Places
-use mathlib.Core.Path.{sym, ap, _∙_}
-use Prim.Native.Nat.{ℕ, _+_, _-_, _*_}
+use mathlib.Core.Path.{sym, _∙_}
+use Prim.Native.Nat.{_-_}
 use native.Mathlib.Omega.{arith}
-use lib.ListN.{getD}
-use Rattle.ring.specs.Ring.{tab}
 use Rattle.ring.proofs.Lists.{length-tab, at-tab}
 use Rattle.workspace.specs.Inner.{combined}
 use Rattle.workspace.proofs.Memory.{within, place-end}
-use Rattle.workspace.proofs.Writing.{Writing, writing-none, writing-more, writing-all, unwritten, unwritten-lt}
+use Rattle.workspace.proofs.Writing.{writing-none, writing-more, writing-all, unwritten, unwritten-lt}
 use Rattle.workspace.proofs.Making.{made-combined, combined-from}
 use borrow.Author.Needs.{needs}
 use Rattle.workspace.proofs.arithmetic.combine.Statement.{statement}

@@ -1,5 +1,5 @@
 mod Places
-use mathlib.Core.Path.{sym, ap, subst, _∙_}
+use mathlib.Core.Path.{_∙_}
 use Rattle.workspace.proofs.Filling.{copied-back}
 use Rattle.workspace.proofs.Making.{made-product}
 use borrow.Author.Needs.{needs}

@@ -1,7 +1,6 @@
 mod Places
-use mathlib.Core.Path.{ap, _∙_}
-use mathlib.Core.List.{List, _++_, append-nil}
-use Prim.Native.Nat.{ℕ}
+use mathlib.Core.Path.{_∙_}
+use mathlib.Core.List.{_++_, append-nil}
 use Rattle.shake.specs.Shake.{shake256}
 use borrow.Author.Needs.{needs}
 use Rattle.workspace.proofs.commitment.mu.Statement.{statement}

@@ -1,6 +1,6 @@
 mod Places
 use native.Mathlib.Omega.{arith}
-use mathlib.Core.Path.{sym, ap, _∙_}
+use mathlib.Core.Path.{ap, _∙_}
 use mathlib.Core.List.{List, map}
 use Prim.Native.Nat.{ℕ}
 use lib.IntN.{pos}
