@@ -16,7 +16,7 @@ use Rattle.answers.specs.declared.Report.{Report}
 use Rattle.answers.specs.Result.{Result, _>>_, need, told}
 use Rattle.shake.specs.Shake.{shake256}
 use Rattle.packing.specs.Parts.{publicSize, signatureSize}
-use Rattle.packing.proofs.WholesFirst.{signature-size}
+use Rattle.packing.proofs.WholesOfSet1.{signature-size}
 use Rattle.scheme.specs.Check.{check}
 use Rattle.ncc_check.specs.Input.{keyIn, signatureIn, messageIn, numberFrom}
 

@@ -5,7 +5,7 @@ pub mod Joins
 pub mod Room
 pub mod Standing
 pub mod Wholes
-pub mod WholesFirst
+pub mod WholesOfSet1
 pub mod Calling
 pub mod Inverse
 pub mod Making
@@ -14,5 +14,5 @@ pub mod Reading
 pub mod Wide
 pub mod Packs
 pub mod Hints
-pub mod First
+pub mod OfSet1
 pub mod Determined

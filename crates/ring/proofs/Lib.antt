@@ -19,5 +19,5 @@ pub mod Folding
 pub mod Engine
 pub mod Signed
 pub mod Calling
-pub mod First
+pub mod OfSet1
 pub mod Determined

@@ -1,5 +1,5 @@
 mod Places
-use Rattle.packing.proofs.WholesFirst.{public-size, signature-size}
+use Rattle.packing.proofs.WholesOfSet1.{public-size, signature-size}
 use mathlib.Core.Path.{sym, _∙_}
 use native.Mathlib.Omega.{arith}
 use lib.Seq.{length-take-le}

@@ -1,5 +1,5 @@
 mod Places
-use Rattle.packing.proofs.WholesFirst.{secret-size}
+use Rattle.packing.proofs.WholesOfSet1.{secret-size}
 use mathlib.Core.Path.{sym}
 use native.Mathlib.Omega.{arith}
 use lib.Seq.{length-take-le}

@@ -12,7 +12,7 @@ use Rattle.packing.specs.Layouts.{layoutOf, size}
 use Rattle.packing.proofs.Room.{field-readable}
 use Rattle.packing.proofs.Calling.{pack-wrong-values, pack-wrong-out, pack-refused, pack-done}
 use Rattle.packing.proofs.Packs.{Coding, values-bad, values-good, can-pack, packed-is}
-use Rattle.packing.proofs.First.{coded}
+use Rattle.packing.proofs.OfSet1.{coded}
 use borrow.Author.Needs.{needs}
 use Rattle.packing.proofs.set1.pack_element.Statement.{statement}
 use Rattle.packing.proofs.set1.pack_element.Tie as tie

@@ -14,7 +14,7 @@ use Rattle.packing.proofs.Room.{hint-readable}
 use Rattle.packing.proofs.Calling.{pack-hints-wrong-values, pack-hints-wrong-out, pack-hints-refused, pack-hints-many, pack-hints-done}
 use Rattle.packing.proofs.Packs.{Coding, values-bad, values-good, codes-small, codes-long, can-pack, packed-is}
 use Rattle.packing.proofs.Hints.{count-is}
-use Rattle.packing.proofs.First.{coded}
+use Rattle.packing.proofs.OfSet1.{coded}
 use borrow.Author.Needs.{needs}
 use Rattle.packing.proofs.set1.pack_hints.Statement.{statement}
 use Rattle.packing.proofs.set1.pack_hints.Tie as tie

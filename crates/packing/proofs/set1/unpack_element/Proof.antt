@@ -13,7 +13,7 @@ use Rattle.packing.specs.Layouts.{layoutOf, size}
 use Rattle.packing.proofs.Room.{field-readable}
 use Rattle.packing.proofs.Calling.{unpack-wrong-packed, unpack-wrong-out, unpack-goes}
 use Rattle.packing.proofs.Packs.{Decoding, read-bad, read-all, read-below, read-long}
-use Rattle.packing.proofs.First.{decoded}
+use Rattle.packing.proofs.OfSet1.{decoded}
 use borrow.Author.Needs.{needs}
 use Rattle.packing.proofs.set1.unpack_element.Statement.{statement}
 use Rattle.packing.proofs.set1.unpack_element.Tie as tie

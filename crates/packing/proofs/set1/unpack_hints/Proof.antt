@@ -14,7 +14,7 @@ use Rattle.packing.proofs.Room.{hint-readable}
 use Rattle.packing.proofs.Calling.{unpack-hints-wrong-packed, unpack-hints-wrong-out, unpack-hints-goes}
 use Rattle.packing.proofs.Packs.{Decoding, read-bad, read-long}
 use Rattle.packing.proofs.Hints.{bits-small, hints-are, read-hints-bad, read-hints-many, read-hints-few}
-use Rattle.packing.proofs.First.{decoded}
+use Rattle.packing.proofs.OfSet1.{decoded}
 use borrow.Author.Needs.{needs}
 use Rattle.packing.proofs.set1.unpack_hints.Statement.{statement}
 use Rattle.packing.proofs.set1.unpack_hints.Tie as tie

@@ -17,7 +17,7 @@ mod Places
 use mathlib.Core.Path.{sym, _∙_}
 use Rattle.answers.proofs.Outcomes.{refusing, doing}
 use Rattle.ring.proofs.Calling.{wrong-first, wrong-second, wrong-out, all-right}
-use Rattle.ring.proofs.First.{can-multiply, can-store, stored}
+use Rattle.ring.proofs.OfSet1.{can-multiply, can-store, stored}
 use borrow.Author.Needs.{needs}
 use Rattle.ring.proofs.set1.product.Statement.{statement}
 use Rattle.ring.proofs.set1.product.Tie as tie

@@ -28,28 +28,28 @@ unfolding total
 signature-size = refl
 
 -- 1,152 codes of any of the widths are whole bytes
-pub full-first : AllFull set1
-full-first = omega arith
+pub full-set1 : AllFull set1
+full-set1 = omega arith
 
 -- what is packed is read again
-pub read-public-first : (k : PublicKey) → length (k .zeta) ≡ 32 → Allowed (t1Layout set1) 1152 (k .t1) → readPublic set1 (packPublic set1 k) ≡ done k
-read-public-first k zeta t1 = read-public set1 k (allowed-public set1 good-set1 k zeta t1)
+pub read-public-set1 : (k : PublicKey) → length (k .zeta) ≡ 32 → Allowed (t1Layout set1) 1152 (k .t1) → readPublic set1 (packPublic set1 k) ≡ done k
+read-public-set1 k zeta t1 = read-public set1 k (allowed-public set1 good-set1 k zeta t1)
 
-pub read-secret-first : (k : SecretKey) → length (k .zeta) ≡ 32 → length (k .ph) ≡ 32 → length (k .k) ≡ 32
+pub read-secret-set1 : (k : SecretKey) → length (k .zeta) ≡ 32 → length (k .ph) ≡ 32 → length (k .k) ≡ 32
     → Allowed (sLayout set1) 1152 (k .s1) → Allowed (sLayout set1) 1152 (k .s2) → Allowed (t0Layout set1) 1152 (k .t0) → readSecret set1 (packSecret set1 k) ≡ done k
-read-secret-first k zeta ph kk s1 s2 t0 = read-secret set1 k (allowed-secret set1 good-set1 k zeta ph kk s1 s2 t0)
+read-secret-set1 k zeta ph kk s1 s2 t0 = read-secret set1 k (allowed-secret set1 good-set1 k zeta ph kk s1 s2 t0)
 
-pub read-signature-first : (σ : Signature) → length (σ .c~) ≡ 32 → Allowed (zLayout set1) 1152 (σ .z) → Allowed hintLayout 1152 (σ .h) → ones (σ .h) ≤ 80
+pub read-signature-set1 : (σ : Signature) → length (σ .c~) ≡ 32 → Allowed (zLayout set1) 1152 (σ .z) → Allowed hintLayout 1152 (σ .h) → ones (σ .h) ≤ 80
     → readSignature set1 (packSignature set1 σ) ≡ done σ
-read-signature-first σ c~ z h few = read-signature set1 σ (allowed-signature set1 good-set1 σ c~ z h few)
+read-signature-set1 σ c~ z h few = read-signature set1 σ (allowed-signature set1 good-set1 σ c~ z h few)
 
 -- what is read is packed again into the same bytes
 module _ (bs : List ℕ) (bytes : (k : ℕ) → getD bs k 0 < 256) where
-  pub pack-public-first : length bs ≡ 1760 → (k : PublicKey) → readPublic set1 bs ≡ done k → packPublic set1 k ≡ bs
-  pack-public-first l = pack-public set1 bs (clean-public set1 full-first bs bytes (l ∙ sym public-size))
+  pub pack-public-set1 : length bs ≡ 1760 → (k : PublicKey) → readPublic set1 bs ≡ done k → packPublic set1 k ≡ bs
+  pack-public-set1 l = pack-public set1 bs (clean-public set1 full-set1 bs bytes (l ∙ sym public-size))
 
-  pub pack-secret-first : length bs ≡ 2400 → (k : SecretKey) → readSecret set1 bs ≡ done k → packSecret set1 k ≡ bs
-  pack-secret-first l = pack-secret set1 bs (clean-secret set1 full-first bs bytes (l ∙ sym secret-size))
+  pub pack-secret-set1 : length bs ≡ 2400 → (k : SecretKey) → readSecret set1 bs ≡ done k → packSecret set1 k ≡ bs
+  pack-secret-set1 l = pack-secret set1 bs (clean-secret set1 full-set1 bs bytes (l ∙ sym secret-size))
 
-  pub pack-signature-first : length bs ≡ 2912 → (σ : Signature) → readSignature set1 bs ≡ done σ → packSignature set1 σ ≡ bs
-  pack-signature-first l = pack-signature set1 bs (clean-signature set1 full-first bs bytes (l ∙ sym signature-size))
+  pub pack-signature-set1 : length bs ≡ 2912 → (σ : Signature) → readSignature set1 bs ≡ done σ → packSignature set1 σ ≡ bs
+  pack-signature-set1 l = pack-signature set1 bs (clean-signature set1 full-set1 bs bytes (l ∙ sym signature-size))
