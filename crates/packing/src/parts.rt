@@ -24,6 +24,11 @@ pub struct Span {
     pub end: usize,
 }
 
+struct Seat {
+    whole: Whole,
+    rank: usize,
+}
+
 // Those of a public key, of a secret key, of a signature, and of H(ζ', 96), in the order in which they stand.
 pub enum Part {
     PublicZeta,
@@ -103,46 +108,67 @@ fn sum(lengths: &[usize], i: usize) -> usize
 }
 
 impl Part {
-    fn whole(self) -> Whole
-        ensures { λ r. ⌜ r ≡ wholeOf self ⌝ }
+    // The whole that it belongs to, and which of its parts it is.
+    fn seat(self) -> Seat
+        ensures { λ r. ⌜ (r .whole ≡ wholeOf self) × (r .rank ≡ rank self) ⌝ }
     {
         match self {
-            Part::PublicZeta => Whole::PublicKey,
-            Part::T1 => Whole::PublicKey,
-            Part::SecretZeta => Whole::SecretKey,
-            Part::Ph => Whole::SecretKey,
-            Part::K => Whole::SecretKey,
-            Part::S1 => Whole::SecretKey,
-            Part::S2 => Whole::SecretKey,
-            Part::T0 => Whole::SecretKey,
-            Part::Commitment => Whole::Signature,
-            Part::Z => Whole::Signature,
-            Part::Hints => Whole::Signature,
-            Part::Xi1 => Whole::Seeds,
-            Part::Xi2 => Whole::Seeds,
-            Part::NewK => Whole::Seeds,
-        }
-    }
-
-    // Which part of its whole it is.
-    fn rank(self) -> usize
-        ensures { λ r. ⌜ r ≡ rank self ⌝ }
-    {
-        match self {
-            Part::PublicZeta => 0,
-            Part::T1 => 1,
-            Part::SecretZeta => 0,
-            Part::Ph => 1,
-            Part::K => 2,
-            Part::S1 => 3,
-            Part::S2 => 4,
-            Part::T0 => 5,
-            Part::Commitment => 0,
-            Part::Z => 1,
-            Part::Hints => 2,
-            Part::Xi1 => 0,
-            Part::Xi2 => 1,
-            Part::NewK => 2,
+            Part::PublicZeta => Seat {
+                whole: Whole::PublicKey,
+                rank: 0,
+            },
+            Part::T1 => Seat {
+                whole: Whole::PublicKey,
+                rank: 1,
+            },
+            Part::SecretZeta => Seat {
+                whole: Whole::SecretKey,
+                rank: 0,
+            },
+            Part::Ph => Seat {
+                whole: Whole::SecretKey,
+                rank: 1,
+            },
+            Part::K => Seat {
+                whole: Whole::SecretKey,
+                rank: 2,
+            },
+            Part::S1 => Seat {
+                whole: Whole::SecretKey,
+                rank: 3,
+            },
+            Part::S2 => Seat {
+                whole: Whole::SecretKey,
+                rank: 4,
+            },
+            Part::T0 => Seat {
+                whole: Whole::SecretKey,
+                rank: 5,
+            },
+            Part::Commitment => Seat {
+                whole: Whole::Signature,
+                rank: 0,
+            },
+            Part::Z => Seat {
+                whole: Whole::Signature,
+                rank: 1,
+            },
+            Part::Hints => Seat {
+                whole: Whole::Signature,
+                rank: 2,
+            },
+            Part::Xi1 => Seat {
+                whole: Whole::Seeds,
+                rank: 0,
+            },
+            Part::Xi2 => Seat {
+                whole: Whole::Seeds,
+                rank: 1,
+            },
+            Part::NewK => Seat {
+                whole: Whole::Seeds,
+                rank: 2,
+            },
         }
     }
 
@@ -151,8 +177,10 @@ impl Part {
         requires { ⌜ Good p ⌝ }
         ensures { λ r. ⌜ (r .start ≡ startIn p self) × (r .end ≡ startIn p self + sizeIn p self) ⌝ }
     {
-        let lengths = self.whole().lengths(p);
-        let i = self.rank();
+        let seat = self.seat();
+        let whole = seat.whole;
+        let i = seat.rank;
+        let lengths = whole.lengths(p);
         let start = sum(&lengths, i);
         Span {
             start: start,

@@ -4,14 +4,11 @@ use Rattle.packing.proofs.parts.Part.span.Tie as tie
 abbrev pub Start : Type 0
 Start = tie.Start
 
-abbrev pub After-whole : Type 0
-After-whole = tie.After-whole
+abbrev pub After-seat : Type 0
+After-seat = tie.After-seat
 
 abbrev pub After-lengths : Type 0
 After-lengths = tie.After-lengths
-
-abbrev pub After-rank : Type 0
-After-rank = tie.After-rank
 
 abbrev pub After-lengths2 : Type 0
 After-lengths2 = tie.After-lengths2
@@ -21,24 +18,22 @@ After-sum = tie.After-sum
 
 abbrev pub after-lengths2 :
     After-lengths2 →
-    record { start : Start; after-whole : After-whole; after-lengths : After-lengths; after-rank : After-rank }
+    record { start : Start; after-seat : After-seat; after-lengths : After-lengths }
 after-lengths2 c =
-    let after-rank = c.before in
-    let after-lengths = after-rank.before in
-    let after-whole = after-lengths.before in
-    let start = after-whole.before in
-    record { start = start; after-whole = after-whole; after-lengths = after-lengths; after-rank = after-rank }
+    let after-lengths = c.before in
+    let after-seat = after-lengths.before in
+    let start = after-seat.before in
+    record { start = start; after-seat = after-seat; after-lengths = after-lengths }
 
 abbrev pub after-sum :
     After-sum →
-    record { start : Start; after-whole : After-whole; after-lengths : After-lengths; after-rank : After-rank }
+    record { start : Start; after-seat : After-seat; after-lengths : After-lengths }
 after-sum c =
-    let after-rank = c.before.before in
-    let after-lengths = after-rank.before in
-    let after-whole = after-lengths.before in
-    let start = after-whole.before in
-    record { start = start; after-whole = after-whole; after-lengths = after-lengths; after-rank = after-rank }
+    let after-lengths = c.before.before in
+    let after-seat = after-lengths.before in
+    let start = after-seat.before in
+    record { start = start; after-seat = after-seat; after-lengths = after-lengths }
 
 -- the code's places and needs when this was made, by which `places` follows a change of the code
--- code: Start After-whole=whole After-lengths=lengths After-rank=rank After-lengths2=lengths2 After-sum=sum
--- needs: whole-requires lengths-requires rank-requires slice-aggregate-sum sum-requires mul-t10 array-read-t13 add-t14 returns
+-- code: Start After-seat=seat After-lengths=lengths After-lengths2=lengths2 After-sum=sum
+-- needs: seat-requires lengths-requires slice-aggregate-sum sum-requires mul-t11 array-read-t14 add-t15 returns
