@@ -1,5 +1,5 @@
 -- What a step's answer says of the definition's result.
-use mathlib.Core.Path.{_≡_, refl, sym, ap, subst, _∙_}
+use mathlib.Core.Path.{_≡_, refl, sym, ap, _∙_}
 use Prim.Native.Nat.{ℕ}
 use native.Mathlib.Omega.{arith}
 use Rattle.answers.specs.declared.Refusal.{Refusal}
@@ -20,10 +20,6 @@ module _ {A : Type 0} {m : Result A} {holds : A → Type 0} where
 
   pub gives-ill : (r : Refusal) → m ≡ refused r → Gives m holds (Refused r)
   gives-ill r e = record { well = λ d. absurd (done-not r d); ill = λ why d. let z : r ≡ why = cc in e ∙ ap refused z }
-
-  -- the same of an answer that is known by an equation
-  pub gives-at : {r : Answer} (s : Answer) → r ≡ s → Gives m holds s → Gives m holds r
-  gives-at s e g = subst (Gives m holds) (sym e) g
 
   -- what it says of the value may be put in other words
   pub gives-as : {other : A → Type 0} {r : Answer} → ((a : A) → m ≡ done a → holds a → other a) → Gives m holds r → Gives m other r

@@ -15,7 +15,8 @@ use Rattle.answers.proofs.Outcomes.{stops, gives}
 use Rattle.answers.proofs.Giving.{bind-ill, bind-well, gives-then}
 use Rattle.shake.specs.Shake.{shake256}
 use Rattle.packing.specs.declared.parts.Part.the-variants as part
-use Rattle.packing.specs.Parts.{PublicKey, Signature, bytesOf, fieldIn, readHints, readPublic, readSignature}
+use Rattle.layouts.specs.Hints.{readHints}
+use Rattle.packing.specs.Parts.{PublicKey, Signature, bytesOf, fieldIn, readPublic, readSignature}
 use Rattle.sampling.specs.Samplers.{drawn}
 use Rattle.streams.specs.Streams.{expandA, expandC}
 use Rattle.workspace.specs.declared.Place.the-variants as place

@@ -8,7 +8,7 @@ use Rattle.sets.specs.Set.{Set}
 use Rattle.sets.specs.Good.{Trinomial}
 use Rattle.ring.specs.Profile.{mul}
 use Rattle.ring.specs.Inner.{Residues}
-use Rattle.packing.specs.Layouts.{w1Layout}
+use Rattle.layouts.specs.Layouts.{w1Layout}
 use Rattle.streams.specs.Streams.{Hash}
 use Rattle.scheme.specs.Try.{commit}
 use Rattle.scheme.specs.Check.{recomputed}

@@ -23,7 +23,7 @@ ghost use Rattle.answers.specs.Refusals.{reportOf};
 ghost use Rattle.answers.specs.Result.{answerOf, told};
 ghost use Rattle.answers.specs.Inner.{Gives};
 ghost use Rattle.shake.specs.Shake.{shake256};
-ghost use Rattle.packing.specs.Layouts.{w1Layout};
+ghost use Rattle.layouts.specs.Layouts.{w1Layout};
 ghost use Rattle.packing.specs.Parts.{publicSize, signatureSize};
 ghost use Rattle.scheme.specs.Try.{commit};
 ghost use Rattle.scheme.specs.Check.{same, muFor, check};

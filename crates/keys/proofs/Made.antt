@@ -11,7 +11,7 @@ use Rattle.answers.proofs.Outcomes.{stops, gives}
 use Rattle.answers.proofs.Results.{bind-inv, done-inv}
 use Rattle.shake.specs.Shake.{shake256}
 use Rattle.packing.specs.declared.parts.Part.the-variants as part
-use Rattle.packing.specs.Layouts.{t1Layout, t0Layout, sLayout}
+use Rattle.layouts.specs.Layouts.{t1Layout, t0Layout, sLayout}
 use Rattle.packing.specs.Parts.{packPublic, packSecret, total, bytesOf, seedsSize}
 use Rattle.streams.specs.Streams.{expandA, expandS}
 use Rattle.streams.proofs.Drawn.{expanded-s}

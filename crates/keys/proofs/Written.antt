@@ -7,12 +7,12 @@ use lib.IntN.{ℤ}
 use lib.ListN.{length}
 use Rattle.sets.specs.Set.{Set, seedSize, hashSize}
 use Rattle.shake.specs.Shake.{shake256}
-use Rattle.packing.specs.declared.layout.Layout.{Layout}
+use Rattle.layouts.specs.declared.layout.Layout.{Layout}
 use Rattle.packing.specs.declared.parts.Part.the-variants as part
-use Rattle.packing.specs.Layouts.{t1Layout, t0Layout, sLayout, size, pack}
+use Rattle.layouts.specs.Layouts.{t1Layout, t0Layout, sLayout, size, pack}
 use Rattle.packing.specs.Parts.{PublicKey, SecretKey, packPublic, packSecret, total, publicParts, secretParts, publicSize, secretSize}
 use Rattle.packing.specs.Inner.{startIn, put}
-use Rattle.packing.proofs.Elements.{length-pack}
+use Rattle.layouts.proofs.Elements.{length-pack}
 use Rattle.packing.proofs.Joins.{length-join}
 use Rattle.packing.proofs.Standing.{puts-join}
 use Rattle.scheme.specs.Keys.{phOf}

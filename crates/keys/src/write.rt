@@ -1,6 +1,6 @@
 // The keys, packed from the places of the memory (SPEC 6.7, 6.8).
 use answers::Field;
-use packing::layout::Layout;
+use layouts::layout::Layout;
 use packing::parts::Part;
 use sets::limits;
 use sets::numbers::Numbers;
@@ -11,7 +11,7 @@ ghost use lib.ListN.{length};
 ghost use Rattle.sets.specs.Set.{seedSize, hashSize};
 ghost use Rattle.sets.specs.Good.{Trinomial};
 ghost use Rattle.shake.specs.Shake.{shake256};
-ghost use Rattle.packing.specs.Layouts.{t1Layout, t0Layout, sLayout};
+ghost use Rattle.layouts.specs.Layouts.{t1Layout, t0Layout, sLayout};
 ghost use Rattle.packing.specs.Parts.{packPublic, packSecret, publicSize, secretSize};
 ghost use Rattle.scheme.specs.Keys.{phOf};
 ghost use Rattle.workspace.specs.declared.Place.the-variants as place;

@@ -17,13 +17,14 @@ use Rattle.answers.specs.declared.Refusal.the-variants.{Length, LongMessage, Tr
 use Rattle.answers.specs.Refusals.{refusalIndex}
 use Rattle.answers.specs.Result.{Result, done, refused, _>>=_, _>>_, need, told}
 use Rattle.digits.specs.Digits.{codes, twoBytes}
-use Rattle.packing.specs.declared.layout.Layout.{Layout}
+use Rattle.layouts.specs.declared.layout.Layout.{Layout}
 use Rattle.packing.specs.declared.parts.Part.{Part}
 use Rattle.packing.specs.declared.parts.Part.the-variants as part
-use Rattle.packing.specs.Layouts.{layoutOf, hintLayout, every, holds, allowed, size, unpack}
-use Rattle.packing.specs.Parts.{publicSize, secretSize, signatureSize, bytesOf, fieldIn, ones, anyHint, readPublic, readSecret, readHints, readSignature}
+use Rattle.layouts.specs.Layouts.{layoutOf, hintLayout, every, holds, allowed, size, unpack}
+use Rattle.layouts.specs.Hints.{ones, anyHint, readHints}
+use Rattle.packing.specs.Parts.{publicSize, secretSize, signatureSize, bytesOf, fieldIn, readPublic, readSecret, readSignature}
 use Rattle.packing.specs.Calls.{packCall, unpackCall}
-use Rattle.packing.proofs.Elements.{length-codes}
+use Rattle.layouts.proofs.Elements.{length-codes}
 use Rattle.sampling.specs.Samplers.{Drawn, dry, drew, drawn, sampleA, sampleS}
 use Rattle.streams.specs.Streams.{Hash, expandA, expandS, expandC}
 use Rattle.sampling.specs.Calls.{sampleCall}

@@ -12,9 +12,9 @@ use Rattle.answers.specs.declared.Refusal.{Refusal}
 use Rattle.answers.specs.declared.Refusal.the-variants.{Length, Hint, Coefficient}
 use Rattle.answers.specs.Result.{Result, done, refused, need, _>>_}
 use Rattle.answers.proofs.Outcomes.{equal, unequal, at-most, above}
-use Rattle.packing.specs.declared.layout.Layout.{Layout}
-use Rattle.packing.specs.Layouts.{hintLayout, holds, every, size, pack, unpack, layoutOf}
-use Rattle.packing.specs.Parts.{ones, anyHint, readHints}
+use Rattle.layouts.specs.declared.layout.Layout.{Layout}
+use Rattle.layouts.specs.Layouts.{hintLayout, holds, every, size, pack, unpack, layoutOf}
+use Rattle.layouts.specs.Hints.{ones, anyHint, readHints}
 use Rattle.packing.specs.Calls.{packCall, unpackCall, packHintsCall, unpackHintsCall}
 use Rattle.answers.proofs.Results.{then-done, then-refused}
 

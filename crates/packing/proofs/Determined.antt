@@ -4,10 +4,8 @@ use contract.Lifetimes.{Lfts}
 use denote.Ref.{now}
 use denote.Triple.Clauses.{AtExit}
 use borrow.Fn.Kinds.{Dens, resT, endedOf}
-use Rattle.outcome.proofs.One.{One, determined}
+use Rattle.outcome.proofs.One.{One}
 use Rattle.answers.proofs.Outcomes.{determined-report}
-use Rattle.packing.proofs.layout.Layout.of.Reads as layout-of
-use Rattle.packing.proofs.layout.Layout.of.Kinds as layout-of-kinds
 use Rattle.packing.proofs.parts.Whole.size.Reads as whole-size
 use Rattle.packing.proofs.parts.Whole.size.Kinds as whole-size-kinds
 use Rattle.packing.proofs.parts.Part.span.Reads as part-span
@@ -16,18 +14,6 @@ use Rattle.packing.proofs.parts.Part.of.Reads as part-of
 use Rattle.packing.proofs.parts.Part.of.Kinds as part-of-kinds
 use Rattle.packing.proofs.parts.Part.put.Reads as part-put
 use Rattle.packing.proofs.parts.Part.put.Kinds as part-put-kinds
-use Rattle.packing.proofs.layout.Layout.y.Reads as layout-y
-use Rattle.packing.proofs.layout.Layout.y.Kinds as layout-y-kinds
-use Rattle.packing.proofs.layout.Layout.hint.Reads as layout-hint
-use Rattle.packing.proofs.layout.Layout.hint.Kinds as layout-hint-kinds
-use Rattle.packing.proofs.layout.Layout.size.Reads as layout-size
-use Rattle.packing.proofs.layout.Layout.size.Kinds as layout-size-kinds
-use Rattle.packing.proofs.unpack.unpack.Reads as unpack
-use Rattle.packing.proofs.unpack.unpack.Kinds as unpack-kinds
-use Rattle.packing.proofs.unpack.count_ones.Reads as count-ones
-use Rattle.packing.proofs.unpack.count_ones.Kinds as count-ones-kinds
-use Rattle.packing.proofs.pack.codes_of.Reads as codes-of
-use Rattle.packing.proofs.pack.codes_of.Kinds as codes-of-kinds
 use Rattle.packing.proofs.set1.pack_t1.Reads as pack-t1
 use Rattle.packing.proofs.set1.pack_t1.Kinds as pack-t1-kinds
 use Rattle.packing.proofs.set1.unpack_t1.Reads as unpack-t1
@@ -53,19 +39,6 @@ use Rattle.packing.proofs.set1.pack_hints.Kinds as pack-hints-kinds
 use Rattle.packing.proofs.set1.unpack_hints.Reads as unpack-hints
 use Rattle.packing.proofs.set1.unpack_hints.Kinds as unpack-hints-kinds
 
--- ---- the layouts
-pub layout-of-one : One 0 layout-of-kinds.ps layout-of-kinds.r layout-of.Post (λ κs s. tt {0})
-layout-of-one κs a x y s t p q = (p ∙ sym q, refl)
-
-pub layout-y-one : One 0 layout-y-kinds.ps layout-y-kinds.r layout-y.Post (λ κs s. tt {0})
-layout-y-one κs a x y s t p q = (p ∙ sym q, refl)
-
-pub layout-hint-one : One 0 layout-hint-kinds.ps layout-hint-kinds.r layout-hint.Post (λ κs s. tt {0})
-layout-hint-one κs a x y s t p q = (p ∙ sym q, refl)
-
-pub layout-size-one : One 0 layout-size-kinds.ps layout-size-kinds.r layout-size.Post (λ κs s. tt {0})
-layout-size-one κs a x y s t p q = (p ∙ sym q, refl)
-
 -- ---- the parts of keys and signatures
 pub whole-size-one : One 0 whole-size-kinds.ps whole-size-kinds.r whole-size.Post (λ κs s. tt {0})
 whole-size-one κs a x y s t p q = (p ∙ sym q, refl)
@@ -80,16 +53,6 @@ part-of-one κs a x y s t p q = p ∙ sym q
 
 pub part-put-one : One 2 part-put-kinds.ps part-put-kinds.r part-put.Post (λ κs s. now (s .1 .1 .0))
 part-put-one κs a x y s t p q = (refl, p ∙ sym q)
-
--- ---- the inner functions
-pub unpack-one : One 2 unpack-kinds.ps unpack-kinds.r unpack.Post (λ κs s. now (s .1 .1 .1 .0))
-unpack-one κs a x y s t p q = determined _ x y (now (s .1 .1 .1 .0)) (now (t .1 .1 .1 .0)) p q
-
-pub codes-of-one : One 2 codes-of-kinds.ps codes-of-kinds.r codes-of.Post (λ κs s. now (s .1 .1 .0))
-codes-of-one κs a x y s t p q = determined _ x y (now (s .1 .1 .0)) (now (t .1 .1 .0)) p q
-
-pub count-ones-one : One 1 count-ones-kinds.ps count-ones-kinds.r count-ones.Post (λ κs s. tt {0})
-count-ones-one κs a x y s t p q = (p ∙ sym q, refl)
 
 -- ---- the calls of set 1
 pub pack-t1-one : One 2 pack-t1-kinds.ps pack-t1-kinds.r pack-t1.Post (λ κs s. now (s .1 .0))

@@ -13,13 +13,13 @@ use Rattle.answers.specs.declared.Field.{Field}
 use Rattle.answers.specs.declared.Refusal.{Refusal}
 use Rattle.answers.specs.declared.Refusal.the-variants.{Length, Hint, Coefficient}
 use Rattle.answers.specs.Result.{done}
-use Rattle.packing.specs.declared.layout.Layout.{Layout}
-use Rattle.packing.specs.Layouts.{hintLayout, holds, every, size, pack, unpack, layoutOf}
-use Rattle.packing.specs.Parts.{ones, anyHint, readHints}
+use Rattle.layouts.specs.declared.layout.Layout.{Layout}
+use Rattle.layouts.specs.Layouts.{hintLayout, holds, every, size, pack, unpack, layoutOf}
+use Rattle.layouts.specs.Hints.{ones, anyHint, readHints}
 use Rattle.packing.specs.Calls.{packCall, unpackCall, packHintsCall, unpackHintsCall}
 use Rattle.answers.proofs.Results.{need-inv, then-inv, done-inv}
-use Rattle.packing.proofs.Kept.{holds-of}
-use Rattle.packing.proofs.Elements.{every-done, every-inv, Element, element-of, ZeroFill, length-pack, unpack-element, was-read, pack-unpacked}
+use Rattle.layouts.proofs.Kept.{holds-of}
+use Rattle.layouts.proofs.Elements.{every-done, every-inv, Element, element-of, ZeroFill, length-pack, unpack-element, was-read, pack-unpacked}
 use Rattle.packing.proofs.Calling.{pack-done, unpack-goes, pack-hints-done, unpack-hints-goes}
 use Rattle.packing.proofs.Wholes.{read-hints, hints-read}
 

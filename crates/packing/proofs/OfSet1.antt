@@ -5,11 +5,11 @@ use Prim.Native.Nat.{ℕ}
 use lib.ListN.{length, replicate}
 use lib.IntN.{ℤ}
 use Rattle.outcome.specs.Outcome.{Is}
-use Rattle.packing.specs.declared.layout.Layout.{Layout}
-use Rattle.packing.specs.declared.unpack.Unpacked.{Unpacked}
-use Rattle.packing.specs.Layouts.{code, holds}
-use Rattle.packing.specs.Inner.{Readable, takenTo, unpackedTo}
-use Rattle.packing.proofs.Packs.{Coding, Decoding, taken-as, unpacked-as}
+use Rattle.layouts.specs.declared.layout.Layout.{Layout}
+use Rattle.layouts.specs.declared.unpack.Unpacked.{Unpacked}
+use Rattle.layouts.specs.Layouts.{code, holds}
+use Rattle.layouts.specs.Inner.{Readable, takenTo, unpackedTo}
+use Rattle.layouts.proofs.Packs.{Coding, Decoding, taken-as, unpacked-as}
 
 abbrev zeros : List ℕ
 zeros = replicate 1152 0

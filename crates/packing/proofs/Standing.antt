@@ -13,15 +13,16 @@ use Rattle.digits.proofs.Numbers.{Below}
 use Rattle.digits.proofs.Codes.{below-at}
 use Rattle.buffers.specs.Buffers.{overlay}
 use Rattle.buffers.proofs.Copies.{overlay-all}
-use Rattle.packing.specs.declared.layout.Layout.{Layout}
+use Rattle.layouts.specs.declared.layout.Layout.{Layout}
 use Rattle.packing.specs.declared.parts.Whole.{Whole}
 use Rattle.packing.specs.declared.parts.Whole.the-variants as whole
 use Rattle.packing.specs.declared.parts.Part.{Part}
 use Rattle.packing.specs.declared.parts.Part.the-variants as part
-use Rattle.packing.specs.Layouts.{t1Layout, t0Layout, sLayout, zLayout, hintLayout, size}
+use Rattle.layouts.specs.Layouts.{t1Layout, t0Layout, sLayout, zLayout, hintLayout, size}
 use Rattle.packing.specs.Parts.{cut, join, total, part, partsIn, partsOf, wholeOf, rank, bytesOf}
-use Rattle.packing.specs.Inner.{Readable, lengths, sizeIn, startIn, put}
-use Rattle.packing.proofs.Room.{bits-room, t1-readable, t0-readable, s-readable, z-readable, hint-readable}
+use Rattle.layouts.specs.Inner.{Readable}
+use Rattle.packing.specs.Inner.{lengths, sizeIn, startIn, put}
+use Rattle.layouts.proofs.Room.{bits-room, t1-readable, t0-readable, s-readable, z-readable, hint-readable}
 
 -- ---- lengths
 -- no part is long

@@ -11,12 +11,14 @@ use Rattle.sets.specs.Good.{Good}
 use Rattle.answers.specs.declared.Field.the-variants.{T1, T0, S1, S2, Z}
 use Rattle.answers.specs.declared.Refusal.the-variants.{Coefficient, Hint}
 use Rattle.answers.specs.Result.{done, _>>=_, _>>_, need}
-use Rattle.packing.specs.Layouts.{t1Layout, t0Layout, sLayout, zLayout, hintLayout, pack, unpack}
-use Rattle.packing.specs.Parts.{cut, total, part, publicParts, secretParts, signatureParts, ones, anyHint}
-use Rattle.packing.specs.Parts.{PublicKey, SecretKey, Signature, packPublic, packSecret, packSignature, readPublic, readSecret, readHints, readSignature}
+use Rattle.layouts.specs.Layouts.{t1Layout, t0Layout, sLayout, zLayout, hintLayout, pack, unpack}
+use Rattle.layouts.specs.Hints.{ones, anyHint}
+use Rattle.packing.specs.Parts.{cut, total, part, publicParts, secretParts, signatureParts}
+use Rattle.layouts.specs.Hints.{readHints}
+use Rattle.packing.specs.Parts.{PublicKey, SecretKey, Signature, packPublic, packSecret, packSignature, readPublic, readSecret, readSignature}
 use Rattle.answers.proofs.Results.{bind-inv, need-inv, done-inv}
-use Rattle.packing.proofs.Elements.{Element, Allowed, element-of, ZeroFill, Full, length-pack, unpack-element, was-read, pack-unpacked, no-fill}
-use Rattle.packing.proofs.Room.{t1-readable, t0-readable, s-readable, z-readable, hint-readable}
+use Rattle.layouts.proofs.Elements.{Element, Allowed, element-of, ZeroFill, Full, length-pack, unpack-element, was-read, pack-unpacked, no-fill}
+use Rattle.layouts.proofs.Room.{t1-readable, t0-readable, s-readable, z-readable, hint-readable}
 use Rattle.packing.proofs.Joins.{cut-join, join-cut, sizes-cut, part-bytes}
 
 -- ---- what a key or a signature holds

@@ -7,10 +7,11 @@ use lib.ListN.{length, getD}
 use Rattle.sets.specs.Set.{set1}
 use Rattle.answers.specs.Result.{done}
 use Rattle.sets.proofs.Five.{good-set1}
-use Rattle.packing.specs.Layouts.{t1Layout, t0Layout, sLayout, zLayout, hintLayout}
-use Rattle.packing.specs.Parts.{total, publicParts, secretParts, signatureParts, ones}
+use Rattle.layouts.specs.Layouts.{t1Layout, t0Layout, sLayout, zLayout, hintLayout}
+use Rattle.layouts.specs.Hints.{ones}
+use Rattle.packing.specs.Parts.{total, publicParts, secretParts, signatureParts}
 use Rattle.packing.specs.Parts.{PublicKey, SecretKey, Signature, packPublic, packSecret, packSignature, readPublic, readSecret, readSignature}
-use Rattle.packing.proofs.Elements.{Allowed}
+use Rattle.layouts.proofs.Elements.{Allowed}
 use Rattle.packing.proofs.Wholes.{AllFull, allowed-public, allowed-secret, allowed-signature, clean-public, clean-secret, clean-signature}
 use Rattle.packing.proofs.Wholes.{read-public, read-secret, read-signature, pack-public, pack-secret, pack-signature}
 

@@ -9,8 +9,8 @@ use Rattle.answers.specs.declared.Buffer.the-variants.{Coefficients, Packed}
 use Rattle.answers.specs.declared.Field.{Field}
 use Rattle.answers.specs.declared.Refusal.the-variants.{Length, Coefficient, Hint}
 use Rattle.answers.specs.Result.{Result, done, _>>=_, _>>_, need}
-use Rattle.packing.specs.Layouts.{layoutOf, hintLayout, holds, every, size, pack, unpack}
-use Rattle.packing.specs.Parts.{ones, anyHint, readHints}
+use Rattle.layouts.specs.Layouts.{layoutOf, hintLayout, holds, every, size, pack, unpack}
+use Rattle.layouts.specs.Hints.{ones, anyHint, readHints}
 
 unfoldable pub packCall : Set → Field → List ℤ → List ℕ → Result (List ℕ)
 packCall p f values out =

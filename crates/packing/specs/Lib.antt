@@ -1,5 +1,4 @@
--- The packed layouts: codes, elements, keys and signatures, and what the calls answer. Inner is for functions inside.
-pub mod Layouts
+-- Keys and signatures as wholes, and what the calls answer. Inner is for functions inside.
 pub mod Parts
 pub mod Calls
 pub mod Inner

@@ -1,20 +1,19 @@
 -- Keys and signatures as wholes: parts one after the other (SPEC 6.7 to 6.10).
 use Prim.Native.Nat.{ℕ, _+_}
 use mathlib.Core.List.{List, [], _∷_, _++_}
-use lib.Dec.{leb}
 use lib.ListN.{take, drop, getD}
-use lib.IntN.{ℤ, natAbs}
+use lib.IntN.{ℤ}
 use Rattle.sets.specs.Set.{Set, seedSize, hashSize}
 use Rattle.answers.specs.declared.Field.{Field}
 use Rattle.answers.specs.declared.Field.the-variants as field
-use Rattle.answers.specs.declared.Refusal.the-variants.{Coefficient, Hint}
-use Rattle.answers.specs.declared.Refusal.{Refusal}
-use Rattle.answers.specs.Result.{Result, done, _>>=_, _>>_, need}
+use Rattle.answers.specs.declared.Refusal.the-variants.{Coefficient}
+use Rattle.answers.specs.Result.{Result, done, _>>=_}
+use Rattle.layouts.specs.Layouts.{t1Layout, t0Layout, sLayout, zLayout, hintLayout, layoutOf, size, pack, unpack}
+use Rattle.layouts.specs.Hints.{readHints}
 use Rattle.packing.specs.declared.parts.Whole.{Whole}
 use Rattle.packing.specs.declared.parts.Whole.the-variants as whole
 use Rattle.packing.specs.declared.parts.Part.{Part}
 use Rattle.packing.specs.declared.parts.Part.the-variants.{PublicZeta, T1, SecretZeta, Ph, K, S1, S2, T0, Commitment, Z, Hints, Xi1, Xi2, NewK}
-use Rattle.packing.specs.Layouts.{t1Layout, t0Layout, sLayout, zLayout, hintLayout, layoutOf, size, pack, unpack}
 
 -- parts of given lengths, one after the other, and back
 unfoldable pub cut : List ℕ → List ℕ → List (List ℕ)
@@ -112,15 +111,6 @@ bytesOf p x bs = part (partsOf p x) (rank x) bs
 abbrev pub fieldIn : Set → Field → Part → List ℕ → Result (List ℤ)
 fieldIn p f x bs = unpack (layoutOf p f) (Coefficient f) (p .n) (bytesOf p x bs)
 
--- how many of the hints are ones
-unfoldable pub ones : List ℤ → ℕ
-ones [] = 0
-ones (x ∷ xs) = natAbs x + ones xs
-
--- SPEC 6.6: refusal 6 names no place
-abbrev pub anyHint : ℕ → Refusal
-anyHint i = Hint
-
 pub record PublicKey : Type 0 where
   pub zeta : List ℕ
   pub t1 : List ℤ
@@ -171,14 +161,6 @@ readSecret p bs =
         s2 = s2;
         t0 = t0;
       }
-
--- SPEC 6.6: a hint other than 0 or 1, or more than ω ones
-unfoldable pub readHints : Set → List ℕ → Result (List ℤ)
-readHints p bs =
-    do
-      h ← unpack hintLayout anyHint (p .n) bs
-      need (leb (ones h) (p .omega)) Hint
-      done h
 
 unfoldable pub readSignature : Set → List ℕ → Result Signature
 readSignature p bs =

@@ -1,6 +1,3 @@
-// The packed layouts, and the parts of keys and signatures (SPEC 6).
-pub mod layout;
-pub mod pack;
+// The parts of keys and signatures, and the calls that pack and unpack elements of set 1 (SPEC 6.7 to 6.12).
 pub mod parts;
 pub mod set1;
-pub mod unpack;

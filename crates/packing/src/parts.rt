@@ -1,13 +1,13 @@
 // The parts of keys and signatures: how long each one is, and where it stands (SPEC 6.7 to 6.10, 7.1).
-use crate::layout::Layout;
 use answers::Field;
+use layouts::layout::Layout;
 use sets::limits;
 use sets::numbers::Numbers;
 ghost use mathlib.Core.Path.{_≡_};
 ghost use Prim.Native.Nat.{ℕ, _+_, _≤_};
 ghost use lib.ListN.{length, getD, take};
 ghost use Rattle.sets.specs.Good.{Good};
-ghost use Rattle.packing.specs.Layouts.{layoutOf, hintLayout, size};
+ghost use Rattle.layouts.specs.Layouts.{layoutOf, hintLayout, size};
 ghost use Rattle.packing.specs.Parts.{total, partsIn, partsOf, wholeOf, rank, bytesOf};
 ghost use Rattle.packing.specs.Inner.{lengths, sizeIn, startIn, put};
 

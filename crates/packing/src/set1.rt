@@ -1,10 +1,10 @@
 // Packing and unpacking elements of set 1, over buffers that nobody has checked (SPEC 6.12).
-use crate::layout::Layout;
-use crate::unpack::Unpacked;
 use answers::Answer;
 use answers::Buffer;
 use answers::Field;
 use answers::Refusal;
+use layouts::layout::Layout;
+use layouts::unpack::Unpacked;
 use sets::set1::Set1;
 ghost use Rattle.outcome.specs.Outcome.{Is};
 ghost use Rattle.sets.specs.Set.{set1};
@@ -24,7 +24,7 @@ fn pack_element(f: Field, values: &[i32], out: &mut [u8]) -> Answer
         return Answer::Refused(Refusal::Length(Buffer::Packed));
     }
     let mut codes = [0u32; Set1::N];
-    let found = crate::pack::codes_of(l, values, &mut codes);
+    let found = layouts::pack::codes_of(l, values, &mut codes);
     if let Unpacked::BadAt(i) = found {
         return Answer::Refused(Refusal::Coefficient(f, i));
     }
@@ -44,7 +44,7 @@ fn unpack_element(f: Field, packed: &[u8], out: &mut [i32]) -> Answer
         return Answer::Refused(Refusal::Length(Buffer::Coefficients));
     }
     let mut values = [0u32; Set1::N];
-    let found = crate::unpack::unpack(l, Set1::Q, packed, &mut values);
+    let found = layouts::unpack::unpack(l, Set1::Q, packed, &mut values);
     if let Unpacked::BadAt(at) = found {
         return Answer::Refused(Refusal::Coefficient(f, at));
     }
@@ -124,11 +124,11 @@ pub fn pack_hints(values: &[i32], out: &mut [u8]) -> Answer
         return Answer::Refused(Refusal::Length(Buffer::Packed));
     }
     let mut codes = [0u32; Set1::N];
-    let found = crate::pack::codes_of(Layout::hint(), values, &mut codes);
+    let found = layouts::pack::codes_of(Layout::hint(), values, &mut codes);
     if let Unpacked::BadAt(_) = found {
         return Answer::Refused(Refusal::Hint);
     }
-    if Set1::OMEGA < crate::unpack::count_ones(&codes) {
+    if Set1::OMEGA < layouts::unpack::count_ones(&codes) {
         return Answer::Refused(Refusal::Hint);
     }
     digits::pack_codes(&codes, 1, out);
@@ -145,11 +145,11 @@ pub fn unpack_hints(packed: &[u8], out: &mut [i32]) -> Answer
         return Answer::Refused(Refusal::Length(Buffer::Coefficients));
     }
     let mut bits = [0u32; Set1::N];
-    let found = crate::unpack::unpack(Layout::hint(), Set1::Q, packed, &mut bits);
+    let found = layouts::unpack::unpack(Layout::hint(), Set1::Q, packed, &mut bits);
     if let Unpacked::BadAt(_) = found {
         return Answer::Refused(Refusal::Hint);
     }
-    if Set1::OMEGA < crate::unpack::count_ones(&bits) {
+    if Set1::OMEGA < layouts::unpack::count_ones(&bits) {
         return Answer::Refused(Refusal::Hint);
     }
     buffers::convert::store_plain(&bits, out);

@@ -19,9 +19,9 @@ use Rattle.ring.specs.Inner.{total as sumTo}
 use Rattle.ring.specs.Profile.{mul}
 use Rattle.ring.proofs.Lists.{length-tab, at-tab}
 use Rattle.ring.proofs.Rings.{Fits}
-use Rattle.packing.specs.Layouts.{w1Layout, zLayout, hintLayout, pack}
+use Rattle.layouts.specs.Layouts.{w1Layout, zLayout, hintLayout, pack}
 use Rattle.packing.specs.Parts.{Signature, readSignature, signatureParts, signatureSize}
-use Rattle.packing.proofs.Elements.{length-pack}
+use Rattle.layouts.proofs.Elements.{length-pack}
 use Rattle.packing.proofs.Joins.{length-join}
 use Rattle.packing.proofs.Wholes.{RightSignature, read-signature}
 use Rattle.sampling.specs.Samplers.{drew, drawn}

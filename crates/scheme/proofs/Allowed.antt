@@ -10,8 +10,8 @@ use Rattle.sets.specs.Good.{Good}
 use Rattle.rounding.specs.Rounding.{highBits, makeHint, power2Round}
 use Rattle.rounding.proofs.Hints.{bit, high-lt}
 use Rattle.rounding.proofs.Halves.{Half, power-high-le, power-low-in}
-use Rattle.packing.specs.Layouts.{t1Layout, t0Layout, sLayout, zLayout, w1Layout, hintLayout}
-use Rattle.packing.proofs.Kept.{Kept, Within, kept-plain, kept-down}
+use Rattle.layouts.specs.Layouts.{t1Layout, t0Layout, sLayout, zLayout, w1Layout, hintLayout}
+use Rattle.layouts.proofs.Kept.{Kept, Within, kept-plain, kept-down}
 
 within-abs : (b e m : ℕ) (z : ℤ) → natAbs z + e ≤ b → 2 * b ≤ m + e → Within b e m z
 within-abs b e m (pos a) h l = (omega arith, omega arith)

@@ -15,10 +15,10 @@ use Rattle.rounding.specs.Rounding.{power2Round}
 use Rattle.ring.specs.Ring.{at}
 use Rattle.ring.proofs.Lists.{length-tab, at-tab}
 use Rattle.ring.proofs.Rings.{Fits}
-use Rattle.packing.specs.Layouts.{t1Layout, t0Layout, sLayout, pack}
+use Rattle.layouts.specs.Layouts.{t1Layout, t0Layout, sLayout, pack}
 use Rattle.packing.specs.declared.parts.Part.the-variants as part
 use Rattle.packing.specs.Parts.{PublicKey, SecretKey, readPublic, readSecret, bytesOf, publicParts, secretParts, publicSize, secretSize, seedsSize}
-use Rattle.packing.proofs.Elements.{Element, length-pack}
+use Rattle.layouts.proofs.Elements.{Element, length-pack}
 use Rattle.packing.proofs.Standing.{part-long}
 use Rattle.packing.proofs.Joins.{Sizes, length-join, part-join}
 use Rattle.packing.proofs.Wholes.{RightPublic, RightSecret, read-public, read-secret}

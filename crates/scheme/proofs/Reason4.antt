@@ -18,10 +18,11 @@ use Rattle.rounding.proofs.Congruent.{q-wide}
 use Rattle.ring.specs.Ring.{at}
 use Rattle.ring.specs.Profile.{mul}
 use Rattle.ring.proofs.Rings.{Fits}
-use Rattle.packing.specs.Layouts.{t0Layout}
-use Rattle.packing.specs.Parts.{SecretKey, readSecret, packSignature, ones}
-use Rattle.packing.proofs.Kept.{allowed-ends}
-use Rattle.packing.proofs.Elements.{was-read}
+use Rattle.layouts.specs.Layouts.{t0Layout}
+use Rattle.layouts.specs.Hints.{ones}
+use Rattle.packing.specs.Parts.{SecretKey, readSecret, packSignature}
+use Rattle.layouts.proofs.Kept.{allowed-ends}
+use Rattle.layouts.proofs.Elements.{was-read}
 use Rattle.packing.proofs.Wholes.{secret-parts}
 use Rattle.sampling.specs.Samplers.{Drawn, drew, dry}
 use Rattle.streams.specs.Streams.{Hash, expandA, expandC}

@@ -12,7 +12,8 @@ use Rattle.answers.specs.declared.Refusal.the-variants.{Spent}
 use Rattle.answers.specs.Result.{Result, done, refused, pick}
 use Rattle.rounding.specs.Rounding.{norm}
 use Rattle.ring.specs.Profile.{mul}
-use Rattle.packing.specs.Parts.{packSignature, ones}
+use Rattle.layouts.specs.Hints.{ones}
+use Rattle.packing.specs.Parts.{packSignature}
 use Rattle.sampling.specs.Samplers.{Drawn, drew, dry}
 use Rattle.scheme.specs.Elements.{lows}
 use Rattle.scheme.specs.Try.{Reason, ZLarge, LowLarge, Ct0Large, ManyOnes, Try, passes, fails, Signer, response, masked, hints, judged}

@@ -6,8 +6,9 @@ use lib.IntN.{ℤ}
 use Rattle.answers.specs.Result.{pick}
 use Rattle.rounding.specs.Rounding.{norm}
 use Rattle.ring.specs.Profile.{mul}
-use Rattle.packing.specs.Layouts.{w1Layout, pack}
-use Rattle.packing.specs.Parts.{packSignature, ones}
+use Rattle.layouts.specs.Layouts.{w1Layout, pack}
+use Rattle.layouts.specs.Hints.{ones}
+use Rattle.packing.specs.Parts.{packSignature}
 use Rattle.sampling.specs.Samplers.{Drawn, drew, dry}
 use Rattle.streams.specs.Streams.{Hash, expandY, expandC}
 use Rattle.scheme.specs.Elements.{plus, minus, negated, centring, highs, lows, makeHints}

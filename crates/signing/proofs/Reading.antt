@@ -22,7 +22,7 @@ use Rattle.rounding.proofs.Congruent.{q-pos}
 use Rattle.shake.specs.Shake.{shake256}
 use Rattle.packing.specs.declared.parts.Part.the-variants as part
 use Rattle.packing.specs.Parts.{bytesOf, fieldIn, readSecret}
-use Rattle.packing.proofs.Room.{field-readable}
+use Rattle.layouts.proofs.Room.{field-readable}
 use Rattle.streams.specs.Streams.{expandA}
 use Rattle.streams.proofs.Drawn.{expanded-a}
 use Rattle.workspace.specs.declared.Place.the-variants as place

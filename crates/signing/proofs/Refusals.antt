@@ -16,7 +16,7 @@ use Rattle.answers.specs.Result.{Result, done, refused, _>>=_, _>>_, need}
 use Rattle.answers.proofs.Results.{not-done}
 use Rattle.packing.specs.declared.parts.Part.{Part}
 use Rattle.packing.specs.declared.parts.Part.the-variants as part
-use Rattle.packing.specs.Layouts.{layoutOf, every, allowed, unpack}
+use Rattle.layouts.specs.Layouts.{layoutOf, every, allowed, unpack}
 use Rattle.packing.specs.Parts.{fieldIn, bytesOf, readSecret}
 use Rattle.digits.specs.Digits.{codes}
 use Rattle.sampling.specs.Samplers.{Drawn, drew, dry, drawn, sampleA}

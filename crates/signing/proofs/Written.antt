@@ -8,12 +8,12 @@ use lib.ListN.{length}
 use Rattle.sets.specs.Set.{Set, hashSize}
 use Rattle.sets.specs.Good.{Trinomial}
 use Rattle.ring.specs.Profile.{mul}
-use Rattle.packing.specs.declared.layout.Layout.{Layout}
+use Rattle.layouts.specs.declared.layout.Layout.{Layout}
 use Rattle.packing.specs.declared.parts.Part.the-variants as part
-use Rattle.packing.specs.Layouts.{zLayout, hintLayout, pack}
+use Rattle.layouts.specs.Layouts.{zLayout, hintLayout, pack}
 use Rattle.packing.specs.Parts.{Signature, packSignature, total, signatureParts, signatureSize}
 use Rattle.packing.specs.Inner.{startIn, put}
-use Rattle.packing.proofs.Elements.{length-pack}
+use Rattle.layouts.proofs.Elements.{length-pack}
 use Rattle.packing.proofs.Joins.{length-join}
 use Rattle.packing.proofs.Standing.{puts-join}
 use Rattle.scheme.specs.Elements.{plus, negated}

@@ -18,15 +18,15 @@ use Rattle.shake.proofs.Output.{length-shake256}
 use Rattle.residues.specs.Remainder.{residue}
 use Rattle.residues.proofs.Remainders.{residue-small}
 use Rattle.digits.specs.Digits.{digits, codes}
-use Rattle.packing.specs.declared.unpack.Unpacked.{Unpacked}
-use Rattle.packing.specs.declared.unpack.Unpacked.the-variants.{All as AllRead}
-use Rattle.packing.specs.Layouts.{yLayout, allowed, means, size}
-use Rattle.packing.specs.declared.layout.Layout.{Layout}
-use Rattle.packing.specs.Inner.{Readable, scan, writtenTo, remainders, unpackedTo}
-use Rattle.packing.proofs.Kept.{allowed-of}
-use Rattle.packing.proofs.Elements.{codes-below}
-use Rattle.packing.proofs.Reading.{residues-means}
-use Rattle.packing.proofs.Room.{y-readable}
+use Rattle.layouts.specs.declared.unpack.Unpacked.{Unpacked}
+use Rattle.layouts.specs.declared.unpack.Unpacked.the-variants.{All as AllRead}
+use Rattle.layouts.specs.Layouts.{yLayout, allowed, means, size}
+use Rattle.layouts.specs.declared.layout.Layout.{Layout}
+use Rattle.layouts.specs.Inner.{Readable, scan, writtenTo, remainders, unpackedTo}
+use Rattle.layouts.proofs.Kept.{allowed-of}
+use Rattle.layouts.proofs.Elements.{codes-below}
+use Rattle.layouts.proofs.Reading.{residues-means}
+use Rattle.layouts.proofs.Room.{y-readable}
 use Rattle.sampling.specs.declared.Sampled.{Sampled}
 use Rattle.sampling.specs.declared.Sampled.the-variants.{All, Dry}
 use Rattle.sampling.specs.Samplers.{drawn, sampleA, sampleS, challenge}

@@ -13,7 +13,7 @@ use lib.Signed.{leZ, leZ-yes, _≤ℤ_}
 use Rattle.sets.specs.Set.{Set, set1}
 use Rattle.digits.specs.Digits.{codes, twoBytes}
 use Rattle.digits.proofs.Codes.{length-codes, codes-at}
-use Rattle.packing.specs.Layouts.{yLayout, means, size}
+use Rattle.layouts.specs.Layouts.{yLayout, means, size}
 use Rattle.residues.proofs.Order.{below-or}
 use Rattle.residues.proofs.Differences.{pos-sub, sub-lt, sub-ge}
 use Rattle.streams.specs.Streams.{Hash, expandY}

@@ -5,7 +5,7 @@ use lib.IntN.{ℤ}
 use Rattle.sets.specs.Set.{Set}
 use Rattle.answers.specs.Result.{Result}
 use Rattle.digits.specs.Digits.{codes, twoBytes}
-use Rattle.packing.specs.Layouts.{yLayout, means, size}
+use Rattle.layouts.specs.Layouts.{yLayout, means, size}
 use Rattle.sampling.specs.Samplers.{Drawn, drawn, sampleA, sampleS, challenge}
 
 -- SPEC 4.11: H x b is the first b bytes of the hash of x

@@ -1,7 +1,7 @@
 // Elements of remainders from the streams of SHAKE256 (SPEC 5). The stream is made in memory of the function's own, and drawn from there.
 use answers::Answer;
 use answers::Refusal;
-use packing::layout::Layout;
+use layouts::layout::Layout;
 use sampling::Sampled;
 use sets::limits;
 use sets::numbers::Numbers;
@@ -13,7 +13,7 @@ ghost use Rattle.sets.specs.Good.{Good, Trinomial};
 ghost use Rattle.answers.specs.Inner.{Gives};
 ghost use Rattle.residues.specs.Remainder.{residue};
 ghost use Rattle.shake.specs.Shake.{shake256};
-ghost use Rattle.packing.specs.Layouts.{yLayout, size};
+ghost use Rattle.layouts.specs.Layouts.{yLayout, size};
 ghost use Rattle.sampling.specs.Samplers.{drawn};
 ghost use Rattle.streams.specs.Streams.{expandA, expandS, expandY, expandC};
 
@@ -102,7 +102,7 @@ fn y_in(p: Numbers, rho: &[u8], kappa: u32, stream: &mut [u8], out: &mut [u32])
 {
     let count = [(kappa % 256) as u8, (kappa / 256) as u8];
     shake::shake256(rho, &count, b"", stream);
-    packing::unpack::unpack(Layout::y(p), p.q, stream, out);
+    layouts::unpack::unpack(Layout::y(p), p.q, stream, out);
 }
 
 // y of try κ (SPEC 5.4).

@@ -8,7 +8,8 @@ use lib.Dec.{leb}
 use Rattle.sets.specs.Set.{Set}
 use Rattle.rounding.specs.Rounding.{norm}
 use Rattle.shake.specs.Shake.{shake256}
-use Rattle.packing.specs.Parts.{packSignature, ones}
+use Rattle.layouts.specs.Hints.{ones}
+use Rattle.packing.specs.Parts.{packSignature}
 use Rattle.ring.specs.Profile.{mul}
 use Rattle.sampling.specs.Samplers.{Drawn, drew, dry}
 use Rattle.streams.specs.Streams.{expandC}

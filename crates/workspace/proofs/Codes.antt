@@ -12,11 +12,11 @@ use Rattle.residues.specs.Remainder.{signed}
 use Rattle.residues.proofs.Order.{below-or}
 use Rattle.residues.proofs.Differences.{pos-sub, sub-ge, sub-lt}
 use Rattle.residues.proofs.Centres.{signed-low, signed-high}
-use Rattle.packing.specs.declared.layout.Layout.{Layout}
+use Rattle.layouts.specs.declared.layout.Layout.{Layout}
 use Rattle.digits.specs.Digits.{bytes, byteCount}
-use Rattle.packing.specs.Layouts.{written, code, isCode, holds, size, pack}
-use Rattle.packing.specs.Inner.{Readable}
-use Rattle.packing.proofs.Kept.{kept-of}
+use Rattle.layouts.specs.Layouts.{written, code, isCode, holds, size, pack}
+use Rattle.layouts.specs.Inner.{Readable}
+use Rattle.layouts.proofs.Kept.{kept-of}
 
 -- a negative number is no code
 no-code : (L : Layout) (a : ℕ) {A : Type 0} → isCode L (negsuc a) ≡ true → A

@@ -5,10 +5,10 @@ use Prim.Native.Nat.{ℕ, _≤_}
 use Rattle.sets.specs.Set.{Set, hashSize, w1Capacity}
 use Rattle.sets.specs.Good.{Good, Trinomial}
 use Rattle.shake.specs.Shake.{shake256}
-use Rattle.packing.specs.declared.layout.Layout.{Layout}
-use Rattle.packing.specs.Layouts.{w1Layout, size, pack}
-use Rattle.packing.specs.Inner.{Readable}
-use Rattle.packing.proofs.Room.{w1-readable}
+use Rattle.layouts.specs.declared.layout.Layout.{Layout}
+use Rattle.layouts.specs.Layouts.{w1Layout, size, pack}
+use Rattle.layouts.specs.Inner.{Readable}
+use Rattle.layouts.proofs.Room.{w1-readable}
 use Rattle.scheme.specs.Try.{commit}
 use Rattle.workspace.specs.declared.Place.the-variants as place
 use Rattle.workspace.specs.Inner.{Room, Packable, values}

@@ -13,14 +13,16 @@ use Rattle.answers.specs.declared.Answer.{Answer}
 use Rattle.answers.specs.declared.Answer.the-variants.{Done, Refused}
 use Rattle.answers.specs.Result.{Result, done}
 use Rattle.answers.proofs.Giving.{gives-well, gives-ill}
-use Rattle.packing.specs.declared.layout.Layout.{Layout}
+use Rattle.layouts.specs.declared.layout.Layout.{Layout}
 use Rattle.packing.specs.declared.parts.Part.{Part}
-use Rattle.packing.specs.declared.unpack.Unpacked.{Unpacked}
-use Rattle.packing.specs.declared.unpack.Unpacked.the-variants.{All, BadAt}
-use Rattle.packing.specs.Layouts.{hintLayout, size, unpack}
-use Rattle.packing.specs.Parts.{ones, anyHint, readHints, total, partsOf, bytesOf}
-use Rattle.packing.specs.Inner.{Readable, sizeIn}
-use Rattle.packing.proofs.Hints.{read-hints-bad, read-hints-many, read-hints-few}
+use Rattle.layouts.specs.declared.unpack.Unpacked.{Unpacked}
+use Rattle.layouts.specs.declared.unpack.Unpacked.the-variants.{All, BadAt}
+use Rattle.layouts.specs.Layouts.{hintLayout, size, unpack}
+use Rattle.layouts.specs.Hints.{ones, anyHint, readHints}
+use Rattle.packing.specs.Parts.{total, partsOf, bytesOf}
+use Rattle.layouts.specs.Inner.{Readable}
+use Rattle.packing.specs.Inner.{sizeIn}
+use Rattle.layouts.proofs.Hints.{read-hints-bad, read-hints-many, read-hints-few}
 use Rattle.packing.proofs.Standing.{part-long}
 use Rattle.workspace.specs.declared.Place.{Place}
 use Rattle.workspace.specs.declared.Place.the-variants as place

@@ -19,12 +19,12 @@ use Rattle.residues.specs.Remainder.{residue, signed}
 use Rattle.buffers.specs.Buffers.{overlay}
 use Rattle.buffers.proofs.Copies.{overlay-all}
 use Rattle.digits.specs.Digits.{codes}
-use Rattle.packing.specs.declared.layout.Layout.{Layout}
-use Rattle.packing.specs.declared.unpack.Unpacked.{Unpacked}
-use Rattle.packing.specs.declared.unpack.Unpacked.the-variants.{All, BadAt}
-use Rattle.packing.specs.Layouts.{means, allowed, holds, size, pack, unpack}
-use Rattle.packing.specs.Inner.{Readable, scan, remainders, unpackedTo, writtenTo}
-use Rattle.packing.proofs.Reading.{residues-means, unpack-all, unpack-bad}
+use Rattle.layouts.specs.declared.layout.Layout.{Layout}
+use Rattle.layouts.specs.declared.unpack.Unpacked.{Unpacked}
+use Rattle.layouts.specs.declared.unpack.Unpacked.the-variants.{All, BadAt}
+use Rattle.layouts.specs.Layouts.{means, allowed, holds, size, pack, unpack}
+use Rattle.layouts.specs.Inner.{Readable, scan, remainders, unpackedTo, writtenTo}
+use Rattle.layouts.proofs.Reading.{residues-means, unpack-all, unpack-bad}
 use Rattle.workspace.specs.declared.Place.{Place}
 use Rattle.workspace.specs.Inner.{at, slot, Spans, Room, Touched, Holds, values, Packable, Fills, answerWith}
 use Rattle.workspace.proofs.Memory.{Wrote, within, length-element, wrote-part}

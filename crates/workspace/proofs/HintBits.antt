@@ -17,10 +17,10 @@ use Rattle.residues.proofs.Remainders.{residue-small}
 use Rattle.rounding.proofs.Congruent.{q-pos}
 use Rattle.digits.specs.Digits.{codes}
 use Rattle.ring.specs.Ring.{at}
-use Rattle.packing.specs.Layouts.{hintLayout, unpack}
-use Rattle.packing.specs.Parts.{ones, anyHint, readHints}
-use Rattle.packing.proofs.Elements.{was-read, codes-below}
-use Rattle.packing.proofs.Room.{hint-readable}
+use Rattle.layouts.specs.Layouts.{hintLayout, unpack}
+use Rattle.layouts.specs.Hints.{ones, anyHint, readHints}
+use Rattle.layouts.proofs.Elements.{was-read, codes-below}
+use Rattle.layouts.proofs.Room.{hint-readable}
 use Rattle.workspace.specs.Inner.{Bits}
 
 -- bits as whole numbers

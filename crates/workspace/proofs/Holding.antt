@@ -53,10 +53,6 @@ module _ {p : Set} {x : Place} {work more : List ℕ} (T : Touched p x work more
   pub room-kept : Room p work → Room p more
   room-kept r = rw (T .long) r
 
-  -- the places up to k, where x stands behind them
-  pub ready-kept : (k : Place) → at k < at x → Ready p k work → Ready p k more
-  ready-kept k l r = record { room = room-kept (r .room); each = λ j m. residues-kept j (λ e. omega arith) (r .each j m) }
-
 -- the first place alone
 pub ready-first : {p : Set} {x : Place} {work : List ℕ} → at x ≡ 0 → Room p work → Residues p (slot p x work) → Ready p x work
 ready-first {p} {x} {work} e room s =

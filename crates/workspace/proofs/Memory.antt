@@ -124,7 +124,3 @@ module _ (n : ℕ) where
     -- as a lent part of the memory comes back
     pub wrote-part : Wrote n k new work (putMid (k * n) (k * n + n - k * n) work new)
     wrote-part = rw (post-is (k * n) (k * n + n) work (omega arith)) wrote
-
--- an element read as a lent part
-pub part-is : (n k : ℕ) (work : List ℕ) → take (k * n + n - k * n) (drop (k * n) work) ≡ element n k work
-part-is n k work = ap (λ (m : ℕ). take m (drop (k * n) work)) {x = k * n + n - k * n} {y = n} (omega arith)

@@ -19,15 +19,16 @@ use Rattle.rounding.proofs.Norms.{norm-each}
 use Rattle.ring.specs.Ring.{at}
 use Rattle.ring.proofs.Lists.{length-tab, at-tab, map-tab, tab-cong, is-tab}
 use Rattle.ring.proofs.Signed.{at-reduced}
-use Rattle.packing.specs.declared.layout.Layout.{Layout}
+use Rattle.layouts.specs.declared.layout.Layout.{Layout}
 use Rattle.packing.specs.declared.parts.Part.{Part}
-use Rattle.packing.specs.Layouts.{t1Layout, t0Layout, sLayout, zLayout, w1Layout, hintLayout, code, holds, size, unpack}
+use Rattle.layouts.specs.Layouts.{t1Layout, t0Layout, sLayout, zLayout, w1Layout, hintLayout, code, holds, size, unpack}
 use Rattle.packing.specs.Parts.{total, partsOf}
-use Rattle.packing.specs.Inner.{Readable, sizeIn}
-use Rattle.packing.proofs.Kept.{Kept, kept-plain, holds-of}
-use Rattle.packing.proofs.Elements.{Element, was-read}
-use Rattle.packing.proofs.Reading.{means-small}
-use Rattle.packing.proofs.Room.{t1-readable, t0-readable, s-readable, z-readable, w1-readable, hint-readable}
+use Rattle.layouts.specs.Inner.{Readable}
+use Rattle.packing.specs.Inner.{sizeIn}
+use Rattle.layouts.proofs.Kept.{Kept, kept-plain, holds-of}
+use Rattle.layouts.proofs.Elements.{Element, was-read}
+use Rattle.layouts.proofs.Reading.{means-small}
+use Rattle.layouts.proofs.Room.{t1-readable, t0-readable, s-readable, z-readable, w1-readable, hint-readable}
 use Rattle.sampling.proofs.Drawing.{Each, Small}
 use Rattle.scheme.specs.Elements.{centring, highs, powerHighs, powerLows, makeHints, useHints}
 use Rattle.scheme.proofs.Allowed.{kept-s, kept-z, kept-t1, kept-t0, kept-w1, kept-hint}

@@ -14,10 +14,10 @@ use Rattle.answers.specs.Inner.{Gives}
 use Rattle.residues.specs.Remainder.{residue, signed}
 use Rattle.rounding.specs.Rounding.{highBits, makeHint, useHint, power2Round}
 use Rattle.ring.specs.Inner.{Residues}
-use Rattle.packing.specs.declared.layout.Layout.{Layout}
-use Rattle.packing.specs.declared.unpack.Unpacked.{Unpacked}
-use Rattle.packing.specs.declared.unpack.Unpacked.the-variants.{All, BadAt}
-use Rattle.packing.specs.Layouts.{holds}
+use Rattle.layouts.specs.declared.layout.Layout.{Layout}
+use Rattle.layouts.specs.declared.unpack.Unpacked.{Unpacked}
+use Rattle.layouts.specs.declared.unpack.Unpacked.the-variants.{All, BadAt}
+use Rattle.layouts.specs.Layouts.{holds}
 use Rattle.scheme.specs.Elements.{each, plus, minus, negated, scaled, highs, powerHighs, powerLows, makeHints}
 use Rattle.ring.specs.Ring.{at as coefficient}
 use Rattle.workspace.specs.declared.Place.{Place}

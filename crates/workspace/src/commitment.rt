@@ -2,7 +2,7 @@
 use crate::Place;
 use crate::packed::pack;
 use answers::Field;
-use packing::layout::Layout;
+use layouts::layout::Layout;
 use sets::limits;
 use sets::numbers::Numbers;
 ghost use mathlib.Core.Path.{_≡_};
@@ -10,7 +10,7 @@ ghost use lib.ListN.{length};
 ghost use Rattle.sets.specs.Set.{hashSize, wideSize};
 ghost use Rattle.sets.specs.Good.{Trinomial};
 ghost use Rattle.shake.specs.Shake.{shake256};
-ghost use Rattle.packing.specs.Layouts.{w1Layout, size};
+ghost use Rattle.layouts.specs.Layouts.{w1Layout, size};
 ghost use Rattle.scheme.specs.Try.{commit};
 ghost use Rattle.scheme.specs.Sign.{mu};
 ghost use Rattle.workspace.specs.declared.Place.the-variants as place;

@@ -1,6 +1,6 @@
 // Places packed into bytes (SPEC 6.1): of allowed values, each code is found from the remainder.
 use crate::Place;
-use packing::layout::Layout;
+use layouts::layout::Layout;
 use packing::parts::Part;
 use sets::limits;
 use sets::numbers::Numbers;
@@ -12,9 +12,10 @@ ghost use lib.ListN.{length, getD};
 ghost use Rattle.sets.specs.Set.{capacity};
 ghost use Rattle.sets.specs.Good.{Trinomial};
 ghost use Rattle.residues.specs.Remainder.{signed};
-ghost use Rattle.packing.specs.Layouts.{code, holds, size, pack};
+ghost use Rattle.layouts.specs.Layouts.{code, holds, size, pack};
 ghost use Rattle.packing.specs.Parts.{total, partsOf};
-ghost use Rattle.packing.specs.Inner.{Readable, sizeIn, startIn, put};
+ghost use Rattle.layouts.specs.Inner.{Readable};
+ghost use Rattle.packing.specs.Inner.{sizeIn, startIn, put};
 ghost use Rattle.workspace.specs.Inner.{Room, Packable, values};
 
 // The code of a remainder whose centred value is allowed.

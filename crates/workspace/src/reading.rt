@@ -3,9 +3,9 @@ use crate::Place;
 use answers::Answer;
 use answers::Field;
 use answers::Refusal;
-use packing::layout::Layout;
+use layouts::layout::Layout;
+use layouts::unpack::Unpacked;
 use packing::parts::Part;
-use packing::unpack::Unpacked;
 use sets::numbers::Numbers;
 ghost use mathlib.Core.Path.{_≡_};
 ghost use mathlib.Core.List.{map};
@@ -15,9 +15,11 @@ ghost use lib.ListN.{length, getD};
 ghost use Rattle.sets.specs.Good.{Good};
 ghost use Rattle.answers.specs.declared.Refusal.{Refusal};
 ghost use Rattle.packing.specs.declared.parts.Part.the-variants as part;
-ghost use Rattle.packing.specs.Layouts.{layoutOf, size, unpack};
-ghost use Rattle.packing.specs.Parts.{total, partsOf, bytesOf, fieldIn, readHints, ones, signatureSize};
-ghost use Rattle.packing.specs.Inner.{Readable, sizeIn};
+ghost use Rattle.layouts.specs.Layouts.{layoutOf, size, unpack};
+ghost use Rattle.layouts.specs.Hints.{readHints, ones};
+ghost use Rattle.packing.specs.Parts.{total, partsOf, bytesOf, fieldIn, signatureSize};
+ghost use Rattle.layouts.specs.Inner.{Readable};
+ghost use Rattle.packing.specs.Inner.{sizeIn};
 ghost use Rattle.workspace.specs.declared.Place.the-variants as place;
 ghost use Rattle.workspace.specs.Inner.{slot, Room, Fills, answerWith};
 
@@ -30,7 +32,7 @@ fn unpack(p: Numbers, l: Layout, packed: &[u8], work: &mut [u32], k: Place) -> U
     let span = k.span(p);
     let start = span.start;
     let end = span.end;
-    packing::unpack::unpack(l, p.q, packed, &mut work[start..end])
+    layouts::unpack::unpack(l, p.q, packed, &mut work[start..end])
 }
 
 // Place k from a field of a key or a signature. A refusal names the field and the lowest index of a code that is not allowed.
@@ -62,7 +64,7 @@ pub fn count_ones(p: Numbers, work: &[u32], k: Place) -> usize
     let span = k.span(p);
     let start = span.start;
     let end = span.end;
-    packing::unpack::count_ones(&work[start..end])
+    layouts::unpack::count_ones(&work[start..end])
 }
 
 // The hints of a signature, at most ω of which are ones.

@@ -1,8 +1,8 @@
 mod Places
 use mathlib.Core.Path.{refl, _∙_}
 use Rattle.packing.specs.declared.parts.Part.the-variants as part
-use Rattle.packing.specs.Layouts.{zLayout, hintLayout}
-use Rattle.packing.proofs.Room.{z-readable, hint-readable}
+use Rattle.layouts.specs.Layouts.{zLayout, hintLayout}
+use Rattle.layouts.proofs.Room.{z-readable, hint-readable}
 use Rattle.workspace.specs.declared.Place.the-variants as place
 use Rattle.workspace.proofs.Packing.{asks-put}
 use Rattle.signing.proofs.Written.{signature-written}

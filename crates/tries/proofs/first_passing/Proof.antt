@@ -59,7 +59,7 @@ use Rattle.sets.specs.Good.{Trinomial}
 use Rattle.residues.specs.Remainder.{signed}
 use Rattle.rounding.specs.Rounding.{norm, lowBits}
 use Rattle.ring.specs.Profile.{mul}
-use Rattle.packing.specs.Parts.{ones}
+use Rattle.layouts.specs.Hints.{ones}
 use Rattle.shake.specs.Shake.{shake256}
 use Rattle.workspace.specs.declared.Place.{Place}
 use Rattle.workspace.specs.declared.Place.the-variants as place

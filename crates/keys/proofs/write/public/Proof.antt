@@ -1,6 +1,6 @@
 mod Places
 use mathlib.Core.Path.{refl, _∙_}
-use Rattle.packing.proofs.Room.{t1-readable}
+use Rattle.layouts.proofs.Room.{t1-readable}
 use Rattle.workspace.proofs.Packing.{asks-put}
 use Rattle.packing.specs.declared.parts.Part.the-variants as part
 use Rattle.workspace.specs.declared.Place.the-variants as place

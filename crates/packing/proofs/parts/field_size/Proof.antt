@@ -1,7 +1,7 @@
 use mathlib.Core.Path.{ap, _∙_}
-use Rattle.packing.specs.declared.layout.Layout.{Layout}
-use Rattle.packing.specs.Layouts.{size}
-use Rattle.packing.proofs.Room.{field-readable}
+use Rattle.layouts.specs.declared.layout.Layout.{Layout}
+use Rattle.layouts.specs.Layouts.{size}
+use Rattle.layouts.proofs.Room.{field-readable}
 use borrow.Author.Needs.{needs}
 use Rattle.packing.proofs.parts.field_size.Statement.{statement}
 use Rattle.packing.proofs.parts.field_size.Tie as tie

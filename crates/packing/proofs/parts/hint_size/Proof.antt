@@ -1,7 +1,7 @@
 use mathlib.Core.Path.{ap, _∙_}
 use lib.Dec.{lit≤}
-use Rattle.packing.specs.declared.layout.Layout.{Layout}
-use Rattle.packing.specs.Layouts.{size}
+use Rattle.layouts.specs.declared.layout.Layout.{Layout}
+use Rattle.layouts.specs.Layouts.{size}
 use borrow.Author.Needs.{needs}
 use Rattle.packing.proofs.parts.hint_size.Statement.{statement}
 use Rattle.packing.proofs.parts.hint_size.Tie as tie

@@ -7,11 +7,11 @@ use Rattle.sets.specs.Set.{set1}
 use Rattle.sets.proofs.Five.{good-set1}
 use Rattle.answers.specs.declared.Refusal.the-variants.{Coefficient}
 use Rattle.answers.proofs.Outcomes.{refusing, doing}
-use Rattle.packing.specs.declared.layout.Layout.{Layout}
-use Rattle.packing.specs.Layouts.{layoutOf, size}
-use Rattle.packing.proofs.Room.{field-readable}
+use Rattle.layouts.specs.declared.layout.Layout.{Layout}
+use Rattle.layouts.specs.Layouts.{layoutOf, size}
+use Rattle.layouts.proofs.Room.{field-readable}
 use Rattle.packing.proofs.Calling.{pack-wrong-values, pack-wrong-out, pack-refused, pack-done}
-use Rattle.packing.proofs.Packs.{Coding, values-bad, values-good, can-pack, packed-is}
+use Rattle.layouts.proofs.Packs.{Coding, values-bad, values-good, can-pack, packed-is}
 use Rattle.packing.proofs.OfSet1.{coded}
 use borrow.Author.Needs.{needs}
 use Rattle.packing.proofs.set1.pack_element.Statement.{statement}

@@ -8,12 +8,12 @@ use lib.Dec.{lit≤}
 use Rattle.sets.specs.Set.{set1}
 use Rattle.sets.proofs.Five.{good-set1}
 use Rattle.answers.proofs.Outcomes.{refusing, doing}
-use Rattle.packing.specs.Layouts.{hintLayout}
-use Rattle.packing.specs.Parts.{ones, anyHint}
-use Rattle.packing.proofs.Room.{hint-readable}
+use Rattle.layouts.specs.Layouts.{hintLayout}
+use Rattle.layouts.specs.Hints.{ones, anyHint}
+use Rattle.layouts.proofs.Room.{hint-readable}
 use Rattle.packing.proofs.Calling.{pack-hints-wrong-values, pack-hints-wrong-out, pack-hints-refused, pack-hints-many, pack-hints-done}
-use Rattle.packing.proofs.Packs.{Coding, values-bad, values-good, codes-small, codes-long, can-pack, packed-is}
-use Rattle.packing.proofs.Hints.{count-is}
+use Rattle.layouts.proofs.Packs.{Coding, values-bad, values-good, codes-small, codes-long, can-pack, packed-is}
+use Rattle.layouts.proofs.Hints.{count-is}
 use Rattle.packing.proofs.OfSet1.{coded}
 use borrow.Author.Needs.{needs}
 use Rattle.packing.proofs.set1.pack_hints.Statement.{statement}

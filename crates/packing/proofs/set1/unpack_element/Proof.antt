@@ -8,11 +8,11 @@ use Rattle.sets.specs.Set.{set1}
 use Rattle.sets.proofs.Five.{good-set1}
 use Rattle.answers.specs.declared.Refusal.the-variants.{Coefficient}
 use Rattle.answers.proofs.Outcomes.{refusing, doing}
-use Rattle.packing.specs.declared.layout.Layout.{Layout}
-use Rattle.packing.specs.Layouts.{layoutOf, size}
-use Rattle.packing.proofs.Room.{field-readable}
+use Rattle.layouts.specs.declared.layout.Layout.{Layout}
+use Rattle.layouts.specs.Layouts.{layoutOf, size}
+use Rattle.layouts.proofs.Room.{field-readable}
 use Rattle.packing.proofs.Calling.{unpack-wrong-packed, unpack-wrong-out, unpack-goes}
-use Rattle.packing.proofs.Packs.{Decoding, read-bad, read-all, read-below, read-long}
+use Rattle.layouts.proofs.Packs.{Decoding, read-bad, read-all, read-below, read-long}
 use Rattle.packing.proofs.OfSet1.{decoded}
 use borrow.Author.Needs.{needs}
 use Rattle.packing.proofs.set1.unpack_element.Statement.{statement}

@@ -8,12 +8,12 @@ use lib.Dec.{lit≤}
 use Rattle.sets.specs.Set.{set1}
 use Rattle.sets.proofs.Five.{good-set1}
 use Rattle.answers.proofs.Outcomes.{refusing, doing}
-use Rattle.packing.specs.Layouts.{hintLayout}
-use Rattle.packing.specs.Parts.{anyHint}
-use Rattle.packing.proofs.Room.{hint-readable}
+use Rattle.layouts.specs.Layouts.{hintLayout}
+use Rattle.layouts.specs.Hints.{anyHint}
+use Rattle.layouts.proofs.Room.{hint-readable}
 use Rattle.packing.proofs.Calling.{unpack-hints-wrong-packed, unpack-hints-wrong-out, unpack-hints-goes}
-use Rattle.packing.proofs.Packs.{Decoding, read-bad, read-long}
-use Rattle.packing.proofs.Hints.{bits-small, hints-are, read-hints-bad, read-hints-many, read-hints-few}
+use Rattle.layouts.proofs.Packs.{Decoding, read-bad, read-long}
+use Rattle.layouts.proofs.Hints.{bits-small, hints-are, read-hints-bad, read-hints-many, read-hints-few}
 use Rattle.packing.proofs.OfSet1.{decoded}
 use borrow.Author.Needs.{needs}
 use Rattle.packing.proofs.set1.unpack_hints.Statement.{statement}

@@ -2,7 +2,7 @@ use mathlib.Core.Path.{sym, _∙_}
 use Prim.Native.Nat.{ℕ, _-_}
 use lib.ListN.{length}
 use Rattle.residues.specs.Remainder.{signed}
-use Rattle.packing.specs.Layouts.{code}
+use Rattle.layouts.specs.Layouts.{code}
 use Rattle.buffers.proofs.Changes.{Changed, changed-none, changed-more, changed-all}
 use Rattle.workspace.proofs.Codes.{map-map}
 use borrow.Author.Needs.{needs}

@@ -2,7 +2,7 @@ mod Places
 use lib.ListN.{length}
 use mathlib.Core.Path.{sym, ap, _∙_}
 use native.Mathlib.Omega.{arith}
-use Rattle.packing.proofs.Elements.{length-pack}
+use Rattle.layouts.proofs.Elements.{length-pack}
 use Rattle.packing.proofs.Standing.{part-within, part-lent, part-long, part-put}
 use borrow.Author.Needs.{needs}
 use Rattle.workspace.proofs.packed.put.Statement.{statement}

@@ -4,7 +4,7 @@ use mathlib.Core.Path.{ap, _∙_}
 use mathlib.Core.List.{List, map}
 use Prim.Native.Nat.{ℕ}
 use lib.IntN.{pos}
-use Rattle.packing.specs.Parts.{ones}
+use Rattle.layouts.specs.Hints.{ones}
 use Rattle.workspace.proofs.Filling.{lent-is, lent-long}
 use borrow.Author.Needs.{needs}
 use Rattle.workspace.proofs.reading.count_ones.Statement.{statement}

@@ -1,6 +1,6 @@
 mod Places
 use Rattle.answers.specs.declared.Refusal.the-variants.{Coefficient}
-use Rattle.packing.proofs.Room.{field-readable}
+use Rattle.layouts.proofs.Room.{field-readable}
 use Rattle.workspace.proofs.Fields.{asks-part, field-all, field-bad}
 use borrow.Author.Needs.{needs}
 use Rattle.workspace.proofs.reading.read_field.Statement.{statement}

@@ -2,7 +2,7 @@ mod Places
 use mathlib.Core.Path.{refl}
 use native.Mathlib.Omega.{arith}
 use Rattle.packing.specs.declared.parts.Part.the-variants as part
-use Rattle.packing.proofs.Room.{hint-readable}
+use Rattle.layouts.proofs.Room.{hint-readable}
 use Rattle.workspace.proofs.Fields.{asks-part, hints-bad, hints-below, hints-many, hints-few}
 use borrow.Author.Needs.{needs}
 use Rattle.workspace.proofs.reading.read_hints.Statement.{statement}

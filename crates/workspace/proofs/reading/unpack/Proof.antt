@@ -2,7 +2,7 @@ mod Places
 use native.Mathlib.Omega.{arith}
 use mathlib.Core.Path.{sym, ap, _∙_}
 use Prim.Native.Nat.{ℕ}
-use Rattle.packing.specs.Layouts.{size}
+use Rattle.layouts.specs.Layouts.{size}
 use Rattle.workspace.proofs.Filling.{lent-long, back-read}
 use borrow.Author.Needs.{needs}
 use Rattle.workspace.proofs.reading.unpack.Statement.{statement}
