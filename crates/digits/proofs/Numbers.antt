@@ -3,10 +3,10 @@ use mathlib.Core.Path.{_≡_, refl, sym, ap, ap₂, _∙_}
 use mathlib.Core.List.{List, [], _∷_}
 use Prim.Native.Nat.{ℕ, zero, suc, _+_, _-_, _*_, _/_, _%_, _^_, _≤_, _<_}
 use native.Mathlib.Nat.{lt-of-lt-of-le, mod-add-div, mod-lt, mod-eq-of-lt, div-eq-of-lt, div-one, div-lt-iff-lt-mul, div-div-eq-div-mul, add-mul-mod-self-left}
-use native.Mathlib.Nat.{add-mul-div-left, zero-add, add-comm, mul-comm, pow-zero, pow-suc, pow-succ', div-add-mod, mod-one, sub-self, mul-zero, mul-suc}
+use native.Mathlib.Nat.{add-mul-div-left, zero-add, add-comm, mul-comm, pow-zero, pow-suc, pow-succ', mul-zero, mul-suc}
 use native.Mathlib.Omega.{arith}
 use lib.Arith.{lt-one, digits-lt}
-use lib.Pow.{pow-pos, pow-mono, pow-add, shr-shr, field, mod-mod-pow, mod-pow-add}
+use lib.Pow.{pow-pos, pow-mono, pow-add}
 use lib.Dec.{lit<}
 use lib.ListN.{length, getD}
 use Rattle.digits.specs.Digits.{value, digits, codes, bytes}
@@ -68,82 +68,14 @@ getD-digits b (suc n) x zero h = rw (pow-zero, div-one)
 getD-digits b (suc n) x (suc i) h =
     getD-digits b n (x / b) i (omega arith) ∙ ap (λ (y : ℕ). y % b) (div-div-eq-div-mul x b (b ^ i) ∙ ap (λ (y : ℕ). x / y) (sym (pow-succ' b i)))
 
--- the digit at a place, by the value
-pub digit-at : (b : ℕ) (xs : List ℕ) (i : ℕ) → Below b xs → i < length xs → getD xs i 0 ≡ value b xs / b ^ i % b
-digit-at b xs i h l =
-    sym (ap (λ (ys : List ℕ). getD ys i 0) (digits-value b xs h)) ∙ getD-digits b (length xs) (value b xs) i l
-
 pub below-all : (b : ℕ) (xs : List ℕ) → ((i : ℕ) → getD xs i 0 < b) → Below b xs
 below-all b [] h = tt
 below-all b (x ∷ xs) h = (h 0, below-all b xs (λ i. h (suc i)))
-
--- the bit r of the digit j is the bit w * j + r of the value
-pub bit-of : (w : ℕ) (xs : List ℕ) (j r : ℕ) → Below (2 ^ w) xs → r < w → j < length xs → getD xs j 0 / 2 ^ r % 2 ≡ value (2 ^ w) xs / 2 ^ (w * j + r) % 2
-bit-of w xs j r h l k =
-    ap (λ (d : ℕ). d / 2 ^ r % 2) (digit-at (2 ^ w) xs j h k ∙ ap (λ (y : ℕ). value (2 ^ w) xs / y % 2 ^ w) (pow-mul 2 w j))
-    ∙ ap (λ (e : ℕ). N % 2 ^ e / 2 ^ r % 2) split-w
-    ∙ ap (λ (y : ℕ). y % 2) (field N ((w - suc r) + 1) r)
-    ∙ mod-mod-pow (N / 2 ^ r) (w - suc r) 1
-    ∙ ap (λ (y : ℕ). y % 2) (shr-shr (value (2 ^ w) xs) (w * j) r)
-  where
-    N : ℕ
-    N = value (2 ^ w) xs / 2 ^ (w * j)
-
-    split-w : w ≡ ((w - suc r) + 1) + r
-    split-w = omega arith
-
--- one bit more, below those that are there
-pub bit-more : (X₀ base w k v : ℕ) → 0 < k → k ≤ w → v ≡ X₀ / 2 ^ (base + k) % 2 ^ (w - k) → v * 2 + X₀ / 2 ^ (base + (k - 1)) % 2 ≡ X₀ / 2 ^ (base + (k - 1)) % 2 ^ (w - (k - 1))
-bit-more X₀ base w k v p l e =
-    ap (λ (y : ℕ). y * 2 + X % 2) (e ∙ ap (λ (y : ℕ). X₀ / 2 ^ y % 2 ^ (w - k)) at-k ∙ ap (λ (y : ℕ). y % 2 ^ (w - k)) (sym (shr-shr X₀ (base + (k - 1)) 1)))
-    ∙ sym (mod-pow-add X (w - k) 1)
-    ∙ ap (λ (y : ℕ). X % 2 ^ y) wide
-  where
-    X : ℕ
-    X = X₀ / 2 ^ (base + (k - 1))
-
-    at-k : base + k ≡ base + (k - 1) + 1
-    at-k = omega arith
-
-    wide : (w - k) + 1 ≡ w - (k - 1)
-    wide = omega arith
-
-pub field-lt : (X₀ base w k m : ℕ) → w - k ≤ m → X₀ / 2 ^ base % 2 ^ (w - k) < 2 ^ m
-field-lt X₀ base w k m l = lt-of-lt-of-le (mod-lt (X₀ / 2 ^ base) (pow-pos (w - k))) (pow-mono l)
-
--- the bit p of the value, found in its digit of w bits
-pub bit-at : (w : ℕ) (xs : List ℕ) (p : ℕ) → 0 < w → Below (2 ^ w) xs → p / w < length xs → getD xs (p / w) 0 / 2 ^ (p % w) % 2 ≡ value (2 ^ w) xs / 2 ^ p % 2
-bit-at w xs p h b l =
-    bit-of w xs (p / w) (p % w) b (mod-lt p h) l ∙ ap (λ (y : ℕ). value (2 ^ w) xs / 2 ^ y % 2) (div-add-mod p w)
-
--- none of the bits yet
-pub bit-none : (n w : ℕ) → 0 ≡ n % 2 ^ (w - w)
-bit-none n w = rw (sub-self, pow-zero) (sym (mod-one n))
-
--- the next bit of a field, found in a digit of u bits
-pub next-bit : (u : ℕ) (xs : List ℕ) (base w k v : ℕ) → 0 < u → Below (2 ^ u) xs → 0 < k → k ≤ w → (base + (k - 1)) / u < length xs →
-    v ≡ value (2 ^ u) xs / 2 ^ (base + k) % 2 ^ (w - k) →
-    v * 2 + getD xs ((base + (k - 1)) / u) 0 / 2 ^ ((base + (k - 1)) % u) % 2 ≡ value (2 ^ u) xs / 2 ^ (base + (k - 1)) % 2 ^ (w - (k - 1))
-next-bit u xs base w k v hu b hk hw l e =
-    ap (λ (y : ℕ). v * 2 + y) (bit-at u xs (base + (k - 1)) hu b l) ∙ bit-more (value (2 ^ u) xs) base w k v hk hw e
-
--- all the bits
-pub bit-all : (n base w v k : ℕ) → k ≤ 0 → v ≡ n / 2 ^ (base + k) % 2 ^ (w - k) → v ≡ n / 2 ^ base % 2 ^ w
-bit-all n base w v k h e = e ∙ ap₂ (λ (x y : ℕ). n / 2 ^ x % 2 ^ y) (omega arith) (omega arith)
 
 -- the two ways round, at bytes and codes of w bits: n codes fill m bytes, with or without spare bits at the top
 pub unpack-pack : (w n m : ℕ) (cs : List ℕ) → Below (2 ^ w) cs → length cs ≡ n → w * n ≤ 8 * m → codes w n (bytes w m cs) ≡ cs
 unfolding codes bytes
 unpack-pack w n m cs h e l = rw (← e) (regroup (2 ^ w) 256 m cs h (lit< tt) (rw (pow-mul, pow-mul 2 8 m, e) (pow-mono l)))
-
-pub pack-unpack : (w n m : ℕ) (bs : List ℕ) → Below 256 bs → length bs ≡ m → 8 * m ≤ w * n → bytes w m (codes w n bs) ≡ bs
-unfolding codes bytes
-pack-unpack w n m bs h e l = rw (← e) (regroup 256 (2 ^ w) n bs h (pow-pos w) (rw (pow-mul 2 w n, pow-mul 2 8 (length bs), e) (pow-mono l)))
-
--- a byte of the packed codes
-pub bytes-at : (w m : ℕ) (cs : List ℕ) (j : ℕ) → j < m → getD (bytes w m cs) j 0 ≡ value (2 ^ w) cs / 2 ^ (8 * j) % 2 ^ 8
-unfolding bytes
-bytes-at w m cs j h = getD-digits 256 m (value (2 ^ w) cs) j h ∙ ap (λ (y : ℕ). value (2 ^ w) cs / y % 256) (pow-mul 2 8 j)
 
 pub length-bytes : (w m : ℕ) (cs : List ℕ) → length (bytes w m cs) ≡ m
 unfolding bytes

@@ -11,9 +11,8 @@ use lib.ListN.{length, getD, length-map}
 use lib.IntN.{ℤ, pos}
 use Rattle.answers.specs.declared.Refusal.{Refusal}
 use Rattle.answers.specs.Result.{done, _>>_, need}
-use Rattle.digits.specs.Digits.{value, digits, codes, bytes}
-use Rattle.digits.proofs.Numbers.{Below, below-all, digits-below, value-lt, value-digits, pow-mul, unpack-pack, pack-unpack-filled, length-bytes}
-use Rattle.digits.proofs.Codes.{below-at}
+use Rattle.digits.specs.Digits.{value, codes, bytes}
+use Rattle.digits.proofs.Numbers.{Below, below-all, value-lt, value-digits, pow-mul, unpack-pack, pack-unpack-filled, length-bytes}
 use Rattle.layouts.specs.declared.layout.Layout.{Layout}
 use Rattle.layouts.specs.Layouts.{means, code, allowed, holds, every, size, pack, unpack}
 use Rattle.answers.proofs.Results.{then-inv, done-inv}
@@ -88,12 +87,6 @@ module _ (L : Layout) (n : ℕ) where
   unfolding pack
   length-pack zs = length-bytes (L .bits) (size L n) (map (code L) zs)
 
-  pub packed-bytes : (zs : List ℤ) (k : ℕ) → getD (pack L n zs) k 0 < 256
-  unfolding pack bytes
-  packed-bytes zs =
-      let v = value (2 ^ L .bits) (map (code L) zs) in
-      below-at 256 (digits 256 (size L n) v) (lit< tt) (digits-below 256 (size L n) v (lit< tt))
-
   -- unpacking goes by the codes alone
   pub unpack-of-codes : (refusal : ℕ → Refusal) (bs : List ℕ) (zs : List ℤ) → Element L n zs → codes (L .bits) n bs ≡ map (code L) zs → unpack L refusal n bs ≡ done zs
   unfolding unpack
@@ -108,9 +101,6 @@ module _ (L : Layout) (n : ℕ) where
 
   pub unpack-element : (refusal : ℕ → Refusal) (zs : List ℤ) → Element L n zs → unpack L refusal n (pack L n zs) ≡ done zs
   unpack-element refusal zs E = unpack-of-codes refusal (pack L n zs) zs E (codes-packed zs E)
-
-  pub unpack-packed : (refusal : ℕ → Refusal) (zs : List ℤ) → length zs ≡ n → ((k : ℕ) → k < n → Kept L (getD zs k (pos 0))) → unpack L refusal n (pack L n zs) ≡ done zs
-  unpack-packed refusal zs e h = unpack-element refusal zs (record { long = e; kept = h })
 
   -- E13: a fill bit of what was packed is zero
   pub filled : (zs : List ℤ) → length zs ≡ n → ((k : ℕ) → k < n → Kept L (getD zs k (pos 0))) → ZeroFill L n (pack L n zs)
@@ -153,9 +143,6 @@ module _ (L : Layout) (n : ℕ) where
       each : (k : ℕ) → k < n → (u : ℕ) × (getD zs k (pos 0) ≡ means L u) × (allowed L u ≡ true)
       each k l = (getD cs k 0, ap (λ (ys : List ℤ). getD ys k (pos 0)) v ∙ getD-means L cs k (omega (arith, long)), good k l)
 
-  pub unpack-length : (refusal : ℕ → Refusal) (bs : List ℕ) (zs : List ℤ) → unpack L refusal n bs ≡ done zs → length zs ≡ n
-  unpack-length refusal bs zs e = was-read refusal bs zs e .element .long
-
   -- the other way round: bytes whose codes are allowed, with zero fill bits, are packed again into themselves
   pub pack-unpacked : (refusal : ℕ → Refusal) (bs : List ℕ) (zs : List ℤ) → ((k : ℕ) → getD bs k 0 < 256) → length bs ≡ size L n
       → ZeroFill L n bs → unpack L refusal n bs ≡ done zs → pack L n zs ≡ bs
@@ -169,7 +156,3 @@ module _ (L : Layout) (n : ℕ) where
   no-fill bs b l f =
       let e : 256 ^ length bs ≡ 2 ^ (L .bits * n) = pow-mul 2 8 (length bs) ∙ ap (λ (k : ℕ). 2 ^ (8 * k)) l ∙ ap (λ (k : ℕ). 2 ^ k) f in
       rw e at (value-lt 256 bs (below-all 256 bs b))
-
-  pub pack-unpacked-full : (refusal : ℕ → Refusal) (bs : List ℕ) (zs : List ℤ) → ((k : ℕ) → getD bs k 0 < 256) → length bs ≡ size L n
-      → Full L n → unpack L refusal n bs ≡ done zs → pack L n zs ≡ bs
-  pack-unpacked-full refusal bs zs b l f e = pack-unpacked refusal bs zs b l (no-fill bs b l f) e

@@ -2,7 +2,7 @@
 use mathlib.Core.Path.{_≡_, sym, ap, _∙_}
 use mathlib.Core.Bool.{cond}
 use mathlib.Core.Logic.{⊎-elim}
-use Prim.Native.Nat.{ℕ, suc, _+_, _-_, _*_, _/_, _%_, _≤_, _<_, min}
+use Prim.Native.Nat.{ℕ, suc, _-_, _*_, _/_, _%_, _≤_, _<_, min}
 use native.Mathlib.Nat.{mod-eq-of-lt, mod-self}
 use native.Mathlib.Omega.{arith}
 use native.Mathlib.Decide.{ℕ-discrete}
@@ -12,7 +12,7 @@ use lib.IntN.{ℤ, pos, negsuc, natAbs, negℤ, subℕ}
 use Rattle.residues.specs.Remainder.{residue, signed, centred, magnitude}
 use Rattle.residues.proofs.Order.{below-or}
 use Rattle.residues.proofs.Differences.{sub-ge, sub-lt, abs-sub}
-use Rattle.residues.proofs.Remainders.{residue-lt, residue-small, residue-again, residue-neg, residue-negated}
+use Rattle.residues.proofs.Remainders.{residue-lt, residue-again, residue-neg, residue-negated}
 
 pub signed-low : (q x : ℕ) → x ≤ q / 2 → signed q x ≡ pos x
 signed-low q x l = rw (le-leb x (q / 2) l)
@@ -54,10 +54,6 @@ module _ (q : ℕ) (hq : 0 < q) where
   unfolding centred
   centred-same x y e = ap (signed q) e
 
-  pub centred-signed : (x : ℕ) → x < q → centred q (pos x) ≡ signed q x
-  unfolding centred
-  centred-signed x l = ap (signed q) (residue-small q hq x l)
-
   -- a small number is its own
   pub centred-small : (z : ℤ) → 2 * natAbs z < q → centred q z ≡ z
   unfolding centred residue
@@ -71,21 +67,6 @@ module _ (q : ℕ) (hq : 0 < q) where
     where
       half : (a : ℕ) → 2 * suc a < q → q / 2 < (q - 1) - a
       half a h = omega arith
-
-  -- the magnitude of a centred remainder, from the remainder
-  pub signed-abs : (x : ℕ) → x < q → natAbs (signed q x) ≡ cond (leb x (q / 2)) x (q - x)
-  signed-abs x l =
-      ⊎-elim
-      (λ h. ap natAbs (signed-high q x h) ∙ abs-sub x q ∙ sym (rw (lt-leb x (q / 2) h) (less h)))
-      (λ h. ap natAbs (signed-low q x h) ∙ sym (rw (le-leb x (q / 2) h)))
-      (below-or (q / 2) x)
-    where
-      less : q / 2 < x → q - x ≡ (x - q) + (q - x)
-      less h = omega arith
-
-  pub signed-half : (x : ℕ) → x < q → natAbs (signed q x) ≤ q / 2
-  signed-half x l =
-      ⊎-elim (λ h. omega (arith, ap natAbs (signed-high q x h) ∙ abs-sub x q)) (λ h. omega (arith, ap natAbs (signed-low q x h))) (below-or (q / 2) x)
 
   signed-min : (x : ℕ) → x < q → natAbs (signed q x) ≡ min x (q - x)
   signed-min x l =

@@ -37,9 +37,6 @@ neg-unique x y e = sym (+ℤ-idr x) ∙ ap (λ z. x +ℤ z) (sym (+ℤ-invr y)) 
 pub neg-mul : (a c : ℤ) → negℤ a *ℤ c ≡ negℤ (a *ℤ c)
 neg-mul a c = neg-unique (negℤ a *ℤ c) (a *ℤ c) (sym (add-mul (negℤ a) a c) ∙ ap (λ x. x *ℤ c) (+ℤ-invl a) ∙ zero-*ℤ c)
 
-pub mul-neg : (a c : ℤ) → a *ℤ negℤ c ≡ negℤ (a *ℤ c)
-mul-neg a c = *ℤ-comm a (negℤ c) ∙ neg-mul c a ∙ ap negℤ (*ℤ-comm c a)
-
 pub mul-assoc : (a b c : ℤ) → a *ℤ b *ℤ c ≡ a *ℤ (b *ℤ c)
 mul-assoc a b c = ind (λ m. m *ℤ b *ℤ c ≡ m *ℤ (b *ℤ c))
     (ap (λ x. x *ℤ c) (zero-*ℤ b) ∙ zero-*ℤ c ∙ sym (zero-*ℤ (b *ℤ c)))

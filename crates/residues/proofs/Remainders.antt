@@ -123,9 +123,6 @@ module _ (q : ℕ) (p : 0 < q) where
       ap (residue q) (negℤ-+ℤ y (apart x y e .0 *ℤ pos q) ∙ ap (λ v. negℤ y +ℤ v) (sym (neg-mul (apart x y e .0) (pos q)))) ∙
       residue-shift (negℤ y) (negℤ (apart x y e .0))
 
-  pub residue-minus : (x x′ y y′ : ℤ) → residue q x ≡ residue q x′ → residue q y ≡ residue q y′ → residue q (x -ℤ y) ≡ residue q (x′ -ℤ y′)
-  residue-minus x x′ y y′ e f = residue-plus x x′ (negℤ y) (negℤ y′) e (residue-neg y y′ f)
-
   times-l : (x x′ y : ℤ) → residue q x ≡ residue q x′ → residue q (x *ℤ y) ≡ residue q (x′ *ℤ y)
   times-l x x′ y e =
       ap (λ v. residue q (v *ℤ y)) (apart x x′ e .1) ∙

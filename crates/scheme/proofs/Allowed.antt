@@ -21,10 +21,6 @@ within-half : (g m : ℕ) (z : ℤ) → Half g z → m ≡ 2 * g - 1 → Within 
 within-half g m (pos a) h e = (omega arith, omega arith)
 within-half g m (negsuc a) h e = (omega arith, omega arith)
 
-half-abs : (g : ℕ) (z : ℤ) → Half g z → natAbs z ≤ g
-half-abs g (pos a) h = h
-half-abs g (negsuc a) h = omega arith
-
 module _ (p : Set) (G : Good p) where
   pub kept-s : (z : ℤ) → natAbs z ≤ p .eta → Kept (sLayout p) z
   kept-s z h = kept-down (p .sbits) (p .eta) 0 (2 * p .eta) z (G .sFits) (within-abs (p .eta) 0 (2 * p .eta) z (omega arith) (omega arith))
@@ -41,9 +37,6 @@ module _ (p : Set) (G : Good p) where
   kept-t0 x =
       kept-down (p .d) (2 ^ (p .d - 1)) 0 (2 ^ p .d - 1) (power2Round p x .low) (let l = pow-pos (p .d) in omega arith)
       (within-half (2 ^ (p .d - 1)) (2 ^ p .d - 1) (power2Round p x .low) (power-low-in p G x) (omega (arith, G .halves)))
-
-  pub small-t0 : (x : ℤ) → natAbs (power2Round p x .low) ≤ 2 ^ (p .d - 1)
-  small-t0 x = half-abs (2 ^ (p .d - 1)) (power2Round p x .low) (power-low-in p G x)
 
   pub kept-w1 : (x : ℤ) → Kept (w1Layout p) (pos (highBits p x))
   kept-w1 x = let l = high-lt p G x in kept-plain (p .w1bits) (steps p - 1) (highBits p x) (omega (arith, G .w1Fits)) (omega arith)
