@@ -1,9 +1,11 @@
 // The answers that a call can give, and what each one says in numbers (SPEC 10).
+#![tactic(auto)]
+
 ghost use Rattle.std.specs.Prelude.{◌≡◌};
 ghost use Rattle.answers.specs.Refusals.{buffer_place, field_place, field_number, refusal_number, refusal_place, refusal_index, done_report, refusal_report, report_of, signing_report};
 
 // The buffer that a refusal for length names. Coefficients are the numbers of an element, Packed its bytes.
-#[derive(Drop)]
+#[derive(Clone, Copy)]
 pub enum Buffer {
     PublicKey,
     SecretKey,
@@ -17,7 +19,7 @@ pub enum Buffer {
 }
 
 // The field of a bad coefficient. S1 and S2 stand in a secret key; S is an s that is packed or unpacked by itself.
-#[derive(Drop)]
+#[derive(Clone, Copy)]
 pub enum Field {
     T1,
     T0,
@@ -29,7 +31,7 @@ pub enum Field {
 }
 
 // A refusal for a coefficient carries the field and the lowest index.
-#[derive(Drop)]
+#[derive(Clone, Copy)]
 pub enum Refusal {
     Length(Buffer),
     LongMessage,
@@ -41,21 +43,21 @@ pub enum Refusal {
     Differs,
 }
 
-#[derive(Drop)]
+#[derive(Clone, Copy)]
 pub enum Answer {
     Done,
     Refused(Refusal),
 }
 
 // The answer of signing carries the count of tries (SPEC 8.10).
-#[derive(Drop)]
+#[derive(Clone, Copy)]
 pub enum Signing {
     Signed(u32),
     Refused(Refusal, u32),
 }
 
 // An answer in numbers (SPEC 10.6). A part that does not apply is 0.
-#[derive(Drop)]
+#[derive(Clone, Copy)]
 pub struct Report {
     pub number: u32,
     pub place: u32,

@@ -1,4 +1,6 @@
 // Copies and fills of lent memory. Each takes every length.
+#![tactic(auto)]
+
 pub mod convert;
 
 ghost use Rattle.std.specs.Prelude.{◌≡◌, min, pos, length, replicate};

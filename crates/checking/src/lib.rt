@@ -1,4 +1,6 @@
 // Checking (SPEC 9) in one lent memory, for any trinomial set.
+#![tactic(auto)]
+
 ghost use Rattle.std.specs.Prelude.{◌≡◌, length};
 ghost use Rattle.sets.specs.Set.{hash_size};
 ghost use Rattle.sets.specs.Good.{Trinomial};

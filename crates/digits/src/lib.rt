@@ -1,4 +1,6 @@
 // Codes of w bits in bytes, lowest bit first: reading one, and packing all.
+#![tactic(auto)]
+
 ghost use Rattle.std.specs.Prelude.{◌≡◌, ℕ, ◌+◌, ◌*◌, ◌/◌, ◌%◌, ◌^◌, ◌≤◌, ◌<◌, length, get_or, take, drop};
 ghost use Rattle.digits.specs.Digits.{value, bytes, byte_count};
 ghost use Rattle.digits.specs.Inner.{Flushed};
@@ -56,7 +58,7 @@ pub fn code_at(s: &[u8], w: usize, i: usize) -> u32
 }
 
 // Bits on their way out: `bits` of them wait in `held`, and `at` bytes are written.
-#[derive(Drop)]
+#[derive(Clone, Copy)]
 struct Waiting {
     held: u64,
     bits: usize,

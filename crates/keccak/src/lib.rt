@@ -4,6 +4,8 @@
 // or for and, and needs the complement of few lanes. A round reads one array and writes another, a row at a time. So few
 // values live at once that the compiler spills next to none, and the arrays take turns, so that the state is not copied
 // from round to round.
+#![tactic(auto)]
+
 ghost use Rattle.std.specs.Prelude.{◌≡◌, [], ◌∷◌, length};
 ghost use Rattle.keccak.specs.Keccak.{keccak, row};
 ghost use Rattle.keccak.specs.Inner.{flipped, effects, held_lane, held_round};

@@ -1,4 +1,6 @@
 // Key making (SPEC 7) in one lent memory, for any trinomial set.
+#![tactic(auto)]
+
 mod write;
 
 ghost use Rattle.std.specs.Prelude.{◌≡◌, length};

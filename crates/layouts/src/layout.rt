@@ -7,7 +7,7 @@ use answers::Field;
 use sets::numbers::Numbers;
 
 // A code has `bits` bits. It is the value itself or, where `down` holds, base - value. Codes from `least` to `most` are allowed.
-#[derive(Drop)]
+#[derive(Clone, Copy)]
 pub struct Layout {
     pub bits: usize,
     pub down: bool,

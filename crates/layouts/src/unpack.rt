@@ -9,14 +9,14 @@ ghost use Rattle.layouts.specs.Inner.{Readable, taken, remainder, unpacked_to};
 use crate::layout::Layout;
 
 // What stands at a code: a remainder, or a code that is not allowed.
-#[derive(Drop)]
+#[derive(Clone, Copy)]
 pub enum Code {
     Good(u32),
     Bad,
 }
 
 // Every code was allowed, or the lowest index of one that was not.
-#[derive(Drop)]
+#[derive(Clone, Copy)]
 pub enum Unpacked {
     All,
     BadAt(usize),

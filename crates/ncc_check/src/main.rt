@@ -1,5 +1,7 @@
 // Checks a signature (SPEC 11.1): standard input is the public key, the signature and the message. Prints the refusal number and a
 // newline.
+#![tactic(auto)]
+
 ghost use Rattle.std.specs.Prelude.{◌≡◌};
 ghost use Rattle.ncc_check.specs.Input.{number_from};
 

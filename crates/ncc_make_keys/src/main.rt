@@ -1,5 +1,7 @@
 // Makes a key pair (SPEC 11.2): standard input is ζ and ζ'. Prints the refusal number and a newline and, at 0, the public key and the
 // secret key.
+#![tactic(auto)]
+
 ghost use Rattle.outcome.specs.Outcome.{Is};
 ghost use Rattle.answers.specs.Refusals.{report_of};
 ghost use Rattle.answers.specs.Result.{outcome};

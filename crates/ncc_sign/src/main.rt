@@ -1,5 +1,7 @@
 // Signs (SPEC 11.3): standard input is the secret key, the try limit in 4 bytes, little-endian, and the message. Prints the refusal
 // number, the count of tries and a newline and, at 0, the signature.
+#![tactic(auto)]
+
 ghost use Rattle.outcome.specs.Outcome.{Is};
 ghost use Rattle.answers.specs.Refusals.{signing_report};
 ghost use Rattle.scheme.specs.Sign.{sign_outcome};

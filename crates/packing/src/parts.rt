@@ -10,7 +10,7 @@ use layouts::layout::Layout;
 use sets::limits;
 use sets::numbers::Numbers;
 
-#[derive(Drop)]
+#[derive(Clone, Copy)]
 pub enum Whole {
     PublicKey,
     SecretKey,
@@ -19,20 +19,20 @@ pub enum Whole {
 }
 
 // Where a part starts, and where it ends.
-#[derive(Drop)]
+#[derive(Clone, Copy)]
 pub struct Span {
     pub start: usize,
     pub end: usize,
 }
 
-#[derive(Drop)]
+#[derive(Clone, Copy)]
 struct Seat {
     whole: Whole,
     rank: usize,
 }
 
 // Those of a public key, of a secret key, of a signature, and of H(ζ', 96), in the order in which they stand.
-#[derive(Drop)]
+#[derive(Clone, Copy)]
 pub enum Part {
     PublicZeta,
     T1,

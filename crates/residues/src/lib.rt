@@ -1,4 +1,6 @@
 // The two ways between signed numbers and remainders; inside, everything is a remainder in 0..q-1.
+#![tactic(auto)]
+
 pub mod divide;
 
 ghost use Rattle.std.specs.Prelude.{◌≡◌, cond, ◌^◌, ◌/◌, ◌<◌, leb, nat_abs};

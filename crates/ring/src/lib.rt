@@ -1,4 +1,6 @@
 // The product in a trinomial ring (SPEC 2.2, 2.3): the plain engine, over remainders, for any set.
+#![tactic(auto)]
+
 pub mod set1;
 
 ghost use Rattle.std.specs.Prelude.{◌≡◌, ◌+◌, ◌-◌, ◌*◌, ◌^◌, ◌/◌, ◌%◌, ◌<◌, ◌≤◌, length, get_or, set, replicate};

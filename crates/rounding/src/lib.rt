@@ -1,4 +1,6 @@
 // The rounding and hint rules (SPEC 3), over remainders, for any set.
+#![tactic(auto)]
+
 pub mod set1;
 
 ghost use Rattle.std.specs.Prelude.{◌≡◌, ◌<◌, pos, nat_abs};
@@ -8,7 +10,7 @@ ghost use Rattle.rounding.specs.Rounding.{parts, high_bits, low_bits, make_hint,
 use residues::divide::{quotient, wrap};
 use sets::numbers::Numbers;
 
-#[derive(Drop)]
+#[derive(Clone, Copy)]
 pub struct Split {
     pub high: u32,
     pub low: i32,

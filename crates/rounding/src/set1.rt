@@ -10,7 +10,7 @@ use answers::Refusal;
 use sets::set1::Set1;
 
 // SPEC 3.9: the answer of UseHint: the high bits, or refusal 6.
-#[derive(Drop)]
+#[derive(Clone, Copy)]
 pub enum Used {
     High(u32),
     Refused(Refusal),

@@ -1,4 +1,6 @@
 // The samplers (SPEC 5): a, s and the challenge from a stream of any length, for any set.
+#![tactic(auto)]
+
 pub mod challenge;
 pub mod element;
 pub mod set1;
@@ -7,7 +9,7 @@ pub mod small;
 ghost use Rattle.std.specs.Prelude.{◌≡◌, cond, ◌+◌, ◌^◌, ◌<◌, pos};
 
 // Every coefficient was found, or the stream was dry (SPEC 5.1).
-#[derive(Drop)]
+#[derive(Clone, Copy)]
 pub enum Sampled {
     All,
     Dry,

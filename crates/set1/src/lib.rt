@@ -1,4 +1,6 @@
 // Set 1: key making, signing and checking (SPEC 7 to 9) on bytes that nobody has checked.
+#![tactic(auto)]
+
 ghost use Rattle.std.specs.Prelude.{◌≡◌};
 ghost use Rattle.outcome.specs.Outcome.{Is};
 ghost use Rattle.answers.specs.Refusals.{report_of, signing_report};

@@ -1,14 +1,14 @@
 // The numbers of a set as one value, which inner functions take (SPEC 1.1). A set's own type hands it out.
 
 // The rings that are known (SPEC 2.4): X^n = X^(n/2) - 1, and X^n = X + 1.
-#[derive(Drop)]
+#[derive(Clone, Copy)]
 pub enum Ring {
     Trinomial,
     Prime,
 }
 
 // Names as in SPEC 1.1.
-#[derive(Drop)]
+#[derive(Clone, Copy)]
 pub struct Numbers {
     pub n: usize,
     pub q: u32,

@@ -5,7 +5,7 @@ ghost use Rattle.sets.specs.Set.{set1};
 use crate::limits;
 use crate::numbers::{Numbers, Ring};
 
-#[derive(Drop)]
+#[derive(Clone, Copy)]
 pub struct Set1;
 
 impl Set1 {

@@ -1,4 +1,6 @@
 // SHAKE256 of FIPS 202 (SPEC 4.9 to 4.11) over a message in three parts.
+#![tactic(auto)]
+
 ghost use Rattle.std.specs.Prelude.{◌≡◌, ◌++◌, ◌+◌, ◌≤◌, length};
 ghost use Rattle.shake.specs.Shake.{shake256};
 ghost use Rattle.shake.specs.Inner.{put};

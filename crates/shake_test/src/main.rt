@@ -1,4 +1,6 @@
 // SHAKE256 against expected outputs, which stand one after the other in the file shake.bin (tests/shake_vectors.py).
+#![tactic(auto)]
+
 ghost use Rattle.std.specs.Prelude.{◌≤◌};
 
 use libc::STDOUT_FILENO;

@@ -1,4 +1,6 @@
 // Signing (SPEC 8) in one lent memory, for any trinomial set.
+#![tactic(auto)]
+
 ghost use Rattle.std.specs.Prelude.{◌≡◌, ◌≤◌, length};
 ghost use Rattle.outcome.specs.Outcome.{Is};
 ghost use Rattle.sets.specs.Set.{hash_size, wide_size, try_max};

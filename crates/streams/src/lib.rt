@@ -1,4 +1,6 @@
 // Elements of remainders from the streams of SHAKE256 (SPEC 5). The stream is made in memory of the function's own, and drawn from there.
+#![tactic(auto)]
+
 ghost use Rattle.std.specs.Prelude.{◌≡◌, map, ◌^◌, ◌<◌, length};
 ghost use Rattle.sets.specs.Good.{Good, Trinomial};
 ghost use Rattle.answers.specs.Inner.{Gives};

@@ -1,4 +1,6 @@
 // The tries of signing (SPEC 8.4 to 8.8).
+#![tactic(auto)]
+
 ghost use Rattle.std.specs.Prelude.{◌≡◌, List, [], ℕ, ◌^◌, ◌≤◌, ◌<◌, ℤ, length};
 ghost use Rattle.sets.specs.Set.{hash_size, try_max};
 ghost use Rattle.sets.specs.Good.{Trinomial};
@@ -18,7 +20,7 @@ use workspace::drawing::{fill_c, fill_y};
 use workspace::reading::count_ones;
 
 // The first try that passed, or none did.
-#[derive(Drop)]
+#[derive(Clone, Copy)]
 pub enum Tried {
     Passed(u32),
     Spent,

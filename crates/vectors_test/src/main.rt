@@ -1,4 +1,6 @@
 // Key making, signing and checking against the second program's vectors: the file vectors.bin, as second/VECTORS.md says.
+#![tactic(auto)]
+
 mod bytes;
 mod calls;
 mod record;

@@ -13,7 +13,7 @@ use sets::limits;
 use sets::numbers::Numbers;
 
 // What is made of a coefficient x, and of y where there are two.
-#[derive(Drop)]
+#[derive(Clone, Copy)]
 pub enum Op {
     // x + y
     Sum,

@@ -1,4 +1,6 @@
 // The memory that a call works in: elements of remainders, one after the other, each at a place with a name.
+#![tactic(auto)]
+
 pub mod arithmetic;
 pub mod commitment;
 pub mod drawing;
@@ -17,7 +19,7 @@ pub const PLACES: usize = 11;
 
 // What stands where. Key making and checking need few places of their own, so some have two names: t stands where y does, t1 where w does,
 // a·z where w - c·s2 does, and w1 where c·t0 does.
-#[derive(Drop)]
+#[derive(Clone, Copy)]
 pub enum Place {
     A,
     S1,
