@@ -10,57 +10,57 @@ use Rattle.checking.proofs.Comparing.{is_same, is_other}
 use borrow.Author.Rules.{rules}
 use Rattle.checking.proofs.compare.Statement.{statement}
 use Rattle.checking.proofs.compare.Tie as tie
-use Places.{after-expected, after-expected3, same_bytes, other-bytes}
+use Places.{after-expected-1, after-expected-3-1, same_bytes, other_bytes}
 
 -- place high = After-recompute
 -- place committed = After-commit
 -- place opened = After-of
 -- place compared = After-same
--- place same_bytes = Then1
--- place other-bytes = Else1
+-- place same_bytes = Then-same
+-- place other_bytes = Else-same
 
 recompute_requires : tie.Need-recompute-requires
 recompute_requires c κs = search rules
 
-slice_aggregate_commit : tie.Need-slice-aggregate-commit
+slice_aggregate_commit : tie.Need-slice_bounds-commit-end
 slice_aggregate_commit c = search rules
 
 commit_requires : tie.Need-commit-requires
 commit_requires c κs =
-    let at = after-expected c in
-    let H = at.high.recompute.ensures (at.start.pre.1.1).0 (at.start.pre.1.1).1 in
-    ((at.start.pre.0.0, omega (arith, at.start.pre.0.1, at.high.recompute.kept.1.0), asks_commit at.start.args.p at.start.pre.0.0 (at.start.pre.1.1).0 _ H), refl)
+    let at = after-expected-1 c in
+    let H = at.high.recompute.ensures (at.start.requires.1.1).0 (at.start.requires.1.1).1 in
+    ((at.start.requires.0.0, omega (arith, at.start.requires.0.1, at.high.recompute.auto.work), asks_commit at.start.args.p at.start.requires.0.0 (at.start.requires.1.1).0 _ H), refl)
 
 of_requires : tie.Need-of-requires
 of_requires c κs = search rules
 
-slice_aggregate_same : tie.Need-slice-aggregate-same
+slice_aggregate_same : tie.Need-slice_bounds-same-end
 slice_aggregate_same c = search rules
 
 same_requires : tie.Need-same-requires
 same_requires c κs =
-    let at = after-expected3 c in
-    ap length at.opened.of.ensures ∙ part_long at.start.args.p part.Commitment at.start.args.signature.now at.start.pre.1.0 ∙ sym at.committed.commit.kept.1.1.1.1.0
+    let at = after-expected-3-1 c in
+    ap length at.opened.of.ensures ∙ part_long at.start.args.p part.Commitment at.start.args.signature.now at.start.requires.1.0 ∙ sym at.committed.commit.auto.out
 
-same_length : tie.Need-same-length
+same_length : tie.Need-shape_of-work-then-same
 same_length c = search rules
 
-returns : tie.Need-returns
+returns : tie.Need-returns-then-same
 returns c =
     let at = same_bytes c in
     λ i O L.
     is_same at.start.args.p shake256 at.start.args.public-key.now at.start.args.signature.now at.start.args.message.now i _ _ O at.opened.of.ensures
-    (expected_is at.start.args.p at.start.pre.0.0 i _ (at.high.recompute.ensures i L) shake256 _ _ at.committed.commit.ensures) (sym c.if1.true ∙ at.compared.same.ensures)
+    (expected_is at.start.args.p at.start.requires.0.0 i _ (at.high.recompute.ensures i L) shake256 _ _ at.committed.commit.ensures) (sym c.if-same.true ∙ at.compared.same.ensures)
 
-same_length_2 : tie.Need-same-length-2
+same_length_2 : tie.Need-shape_of-work
 same_length_2 c = search rules
 
-returns-2 : tie.Need-returns-2
+returns-2 : tie.Need-returns
 returns-2 c =
-    let at = other-bytes c in
+    let at = other_bytes c in
     λ i O L.
     is_other at.start.args.p shake256 at.start.args.public-key.now at.start.args.signature.now at.start.args.message.now i _ _ O at.opened.of.ensures
-    (expected_is at.start.args.p at.start.pre.0.0 i _ (at.high.recompute.ensures i L) shake256 _ _ at.committed.commit.ensures) (sym c.if1.false ∙ at.compared.same.ensures)
+    (expected_is at.start.args.p at.start.requires.0.0 i _ (at.high.recompute.ensures i L) shake256 _ _ at.committed.commit.ensures) (sym c.if-same.false ∙ at.compared.same.ensures)
 
 pub compare_spec : {M : Type 1} → statement M
 compare_spec =

@@ -6,42 +6,42 @@ use Rattle.checking.proofs.Comparing.{Alike, alike_none, alike_more, alike_not, 
 use Rattle.checking.proofs.same.Statement.{statement}
 use Rattle.checking.proofs.same.Tie as tie
 
-abbrev invariant-loop : tie.invariant-loop
-invariant-loop xs ys i₀ i = Alike xs ys i
+abbrev invariant-loop-i : tie.invariant-loop-i
+invariant-loop-i xs ys i₀ i = Alike xs ys i
 
-abbrev decreases-loop : tie.decreases-loop
-decreases-loop xs ys i₀ i = length xs - i
+abbrev decreases-loop-i : tie.decreases-loop-i
+decreases-loop-i xs ys i₀ i = length xs - i
 
-loop-holds : tie.Need-loop-init invariant-loop decreases-loop
+loop-holds : tie.Need-loop-i-init invariant-loop-i decreases-loop-i
 loop-holds c = alike_none _ _ c.requires
 
-shared_slice_read_if1 : tie.Need-shared-slice-read-if1 invariant-loop decreases-loop
+shared_slice_read_if1 : tie.Need-bounds-xs-i invariant-loop-i decreases-loop-i
 shared_slice_read_if1 c = search rules
 
-shared_slice_read_if1_2 : tie.Need-shared-slice-read-if1-2 invariant-loop decreases-loop
-shared_slice_read_if1_2 c = omega (arith, c.before.before.before.loop.invariant.long)
+shared_slice_read_if1_2 : tie.Need-bounds-ys-i invariant-loop-i decreases-loop-i
+shared_slice_read_if1_2 c = omega (arith, c.loop-i.invariant.long)
 
-returns : tie.Need-returns invariant-loop decreases-loop
-returns c = alike_not _ _ _ c.before.before.before.before.loop.invariant c.before.before.before.loop-test.true c.if1.true
+returns : tie.Need-returns-then-xs-i invariant-loop-i decreases-loop-i
+returns c = alike_not _ _ _ c.loop-i.invariant c.loop-i-test.true c.if-xs-i.true
 
-add_i : tie.Need-overflow-add-i invariant-loop decreases-loop
+add_i : tie.Need-overflow_add-i invariant-loop-i decreases-loop-i
 add_i c = search rules
 
-loop-less : tie.Need-loop-smaller invariant-loop decreases-loop
+loop-less : tie.Need-loop-i-smaller invariant-loop-i decreases-loop-i
 loop-less c = search rules
 
-loop-again : tie.Need-loop-preserved invariant-loop decreases-loop
-loop-again c = alike_more _ _ _ c.before.before.before.before.loop.invariant c.before.before.before.loop-test.true c.if1.false
+loop-again : tie.Need-loop-i-preserved invariant-loop-i decreases-loop-i
+loop-again c = alike_more _ _ _ c.loop-i.invariant c.loop-i-test.true c.if-xs-i.false
 
-returns-2 : tie.Need-returns-2 invariant-loop decreases-loop
-returns-2 c = alike_all _ _ _ c.before.loop.invariant c.loop-test.false
+returns-2 : tie.Need-returns invariant-loop-i decreases-loop-i
+returns-2 c = alike_all _ _ _ c.loop-i.invariant c.loop-i-test.false
 
 pub same_spec : {M : Type 1} → statement M
 same_spec =
     tie.close
     (tie.spec
-    invariant-loop
-    decreases-loop
+    invariant-loop-i
+    decreases-loop-i
     loop-holds
     shared_slice_read_if1
     shared_slice_read_if1_2

@@ -8,11 +8,11 @@ use Rattle.digits.proofs.byte_or_zero.Tie as tie
 byte_requires : tie.Need-byte-requires
 byte_requires c κs = search rules
 
-returns : tie.Need-returns
+returns : tie.Need-returns-then-i-s
 returns c = search rules
 
-returns-2 : tie.Need-returns-2
-returns-2 c = (sym (get_or-eq_default c.before.before.args.s.now 0 c.if1.false), omega arith)
+returns-2 : tie.Need-returns-else-i-s
+returns-2 c = (sym (get_or-eq_default c.args.s.now 0 c.if-i-s.false), omega arith)
 
 pub byte_or_zero_spec : {M : Type 1} → statement M
 byte_or_zero_spec = tie.close (tie.spec byte_requires returns returns-2)

@@ -7,93 +7,93 @@ use borrow.Author.Rules.{rules}
 use Rattle.digits.proofs.pack_codes.Statement.{statement}
 use Rattle.digits.proofs.pack_codes.Tie as tie
 
-abbrev invariant-loop : tie.invariant-loop
-invariant-loop codes w out₀ held₀ bits₀ at₀ i₀ out held bits at i = Gathered codes w out held bits at i
+abbrev invariant-loop-i : tie.invariant-loop-i
+invariant-loop-i codes w out₀ held₀ bits₀ at₀ i₀ out held bits at i = Gathered codes w out held bits at i
 
-abbrev decreases-loop : tie.decreases-loop
-decreases-loop codes w out₀ held₀ bits₀ at₀ i₀ out held bits at i = length codes - i
+abbrev decreases-loop-i : tie.decreases-loop-i
+decreases-loop-i codes w out₀ held₀ bits₀ at₀ i₀ out held bits at i = length codes - i
 
-loop-holds : tie.Need-loop-init invariant-loop decreases-loop
-loop-holds c = gathered_none _ _ _ c.before.before.requires.0 c.before.before.requires.1 (λ k. omega (arith, c.slice-known.given k))
+loop-holds : tie.Need-loop-i-init invariant-loop-i decreases-loop-i
+loop-holds c = gathered_none _ _ _ c.requires.0 c.requires.1 (λ k. omega (arith, c.slice_known-1.given k))
 
-mul_t9 : tie.Need-overflow-mul-t9 invariant-loop decreases-loop
+mul_t9 : tie.Need-offset_bounds-codes-i invariant-loop-i decreases-loop-i
 mul_t9 c = search rules
 
-shared_slice_read_t14 : tie.Need-shared-slice-read-t14 invariant-loop decreases-loop
+shared_slice_read_t14 : tie.Need-bounds-codes-i invariant-loop-i decreases-loop-i
 shared_slice_read_t14 c = search rules
 
-cast_t15 : tie.Need-overflow-cast-t15 invariant-loop decreases-loop
+cast_t15 : tie.Need-overflow_cast-codes invariant-loop-i decreases-loop-i
 cast_t15 c =
-    let l = c.before.before.before.loop in
+    let l = c.loop-i in
     omega (arith, native.Mathlib.Nat.le_trans (native.Mathlib.Nat.le_of_lt (l.invariant.small l.i)) (lib.Pow.pow_mono l.invariant.width))
 
-cast_t16 : tie.Need-overflow-cast-t16 invariant-loop decreases-loop
+cast_t16 : tie.Need-overflow_cast-bits invariant-loop-i decreases-loop-i
 cast_t16 c = search rules
 
-cast_t17 : tie.Need-overflow-cast-t17 invariant-loop decreases-loop
+cast_t17 : tie.Need-overflow_cast-bits-in-loop-i invariant-loop-i decreases-loop-i
 cast_t17 c = search rules
 
-shl_t18 : tie.Need-overflow-shl-t18 invariant-loop decreases-loop
+shl_t18 : tie.Need-overflow_shl-codes invariant-loop-i decreases-loop-i
 shl_t18 c = search rules
 
-add_t19 : tie.Need-overflow-add-t19 invariant-loop decreases-loop
+add_t19 : tie.Need-overflow_add-held invariant-loop-i decreases-loop-i
 add_t19 c =
-    let l = c.before.before.before.loop in
-    rw (shifted _ _ _ _ _ _ _ l.invariant c.before.before.loop-test.true) (omega (arith, room _ _ _ _ _ _ _ l.invariant c.before.before.loop-test.true))
+    let l = c.loop-i in
+    rw (shifted _ _ _ _ _ _ _ l.invariant c.loop-i-test.true) (omega (arith, room _ _ _ _ _ _ _ l.invariant c.loop-i-test.true))
 
-add_t20 : tie.Need-overflow-add-t20 invariant-loop decreases-loop
+add_t20 : tie.Need-overflow_add-bits invariant-loop-i decreases-loop-i
 add_t20 c = search rules
 
-flush_requires : tie.Need-flush-requires invariant-loop decreases-loop
+flush_requires : tie.Need-flush-left-requires invariant-loop-i decreases-loop-i
 flush_requires c κs =
-    let l = c.before.before.before.loop in
-    rw (shifted _ _ _ _ _ _ _ l.invariant c.before.before.loop-test.true) (can_flush _ _ _ _ _ _ _ l.invariant c.before.before.loop-test.true)
+    let l = c.loop-i in
+    rw (shifted _ _ _ _ _ _ _ l.invariant c.loop-i-test.true) (can_flush _ _ _ _ _ _ _ l.invariant c.loop-i-test.true)
 
-add_i : tie.Need-overflow-add-i invariant-loop decreases-loop
+add_i : tie.Need-overflow_add-i invariant-loop-i decreases-loop-i
 add_i c = search rules
 
-loop-less : tie.Need-loop-smaller invariant-loop decreases-loop
+loop-less : tie.Need-loop-i-smaller invariant-loop-i decreases-loop-i
 loop-less c = search rules
 
-loop-again : tie.Need-loop-preserved invariant-loop decreases-loop
+loop-again : tie.Need-loop-i-preserved invariant-loop-i decreases-loop-i
 loop-again c =
-    let l = c.before.before.before.before.before.before.loop in
-    gathered_more _ _ _ _ _ _ _ l.invariant c.before.before.before.before.before.loop-test.true _ _ _
-    (rw (shifted _ _ _ _ _ _ _ l.invariant c.before.before.before.before.before.loop-test.true) refl) refl refl
-    c.before.before.flush.ensures (λ k. omega (arith, c.slice-known2.given k))
+    let l = c.loop-i in
+    gathered_more _ _ _ _ _ _ _ l.invariant c.loop-i-test.true _ _ _
+    (rw (shifted _ _ _ _ _ _ _ l.invariant c.loop-i-test.true) refl) refl refl
+    c.flush-left.ensures (λ k. omega (arith, c.slice_known-in-loop-i-1.given k))
 
-cast_out : tie.Need-overflow-cast-out invariant-loop decreases-loop
+cast_out : tie.Need-overflow_cast-out invariant-loop-i decreases-loop-i
 cast_out c = search rules
 
-slice_write_out : tie.Need-slice-write-out invariant-loop decreases-loop
+slice_write_out : tie.Need-bounds-out-at invariant-loop-i decreases-loop-i
 slice_write_out c =
-    let l = c.before.before.loop in
-    last_place _ _ _ _ _ _ _ l.invariant c.before.loop-test.false c.if1.true
+    let l = c.loop-i in
+    last_place _ _ _ _ _ _ _ l.invariant c.loop-i-test.false c.if-bits-gt0.true
 
-same_length : tie.Need-same-length invariant-loop decreases-loop
+same_length : tie.Need-shape_of-out-then-bits-gt0 invariant-loop-i decreases-loop-i
 same_length c =
-    let l = c.before.before.loop in
-    length-set l.out l.at (l.held % 256) ∙ l.invariant.long ∙ sym c.before.before.before.before.before.requires.1
+    let l = c.loop-i in
+    length-set l.out l.at (l.held % 256) ∙ l.invariant.long ∙ sym c.requires.1
 
-returns : tie.Need-returns invariant-loop decreases-loop
+returns : tie.Need-returns-then-bits-gt0 invariant-loop-i decreases-loop-i
 returns c =
-    let l = c.before.before.loop in
-    gathered_last _ _ _ _ _ _ _ l.invariant c.before.loop-test.false c.if1.true
+    let l = c.loop-i in
+    gathered_last _ _ _ _ _ _ _ l.invariant c.loop-i-test.false c.if-bits-gt0.true
 
-same_length_2 : tie.Need-same-length-2 invariant-loop decreases-loop
+same_length_2 : tie.Need-shape_of-out-else-bits-gt0 invariant-loop-i decreases-loop-i
 same_length_2 c = search rules
 
-returns-2 : tie.Need-returns-2 invariant-loop decreases-loop
+returns-2 : tie.Need-returns-else-bits-gt0 invariant-loop-i decreases-loop-i
 returns-2 c =
-    let l = c.before.before.loop in
-    gathered_all _ _ _ _ _ _ _ l.invariant c.before.loop-test.false c.if1.false
+    let l = c.loop-i in
+    gathered_all _ _ _ _ _ _ _ l.invariant c.loop-i-test.false c.if-bits-gt0.false
 
 pub pack_codes_spec : {M : Type 1} → statement M
 pack_codes_spec =
     tie.close
     (tie.spec
-    invariant-loop
-    decreases-loop
+    invariant-loop-i
+    decreases-loop-i
     loop-holds
     mul_t9
     shared_slice_read_t14

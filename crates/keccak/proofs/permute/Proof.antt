@@ -14,12 +14,12 @@ use Rattle.keccak.proofs.Complement.{held_rounds, keccak_held}
 use Rattle.keccak.proofs.permute.Statement.{statement}
 use Rattle.keccak.proofs.permute.Tie as tie
 
-abbrev invariant-loop : tie.invariant-loop
-invariant-loop table s₀ t₀ i₀ s t i =
+abbrev invariant-loop-i : tie.invariant-loop-i
+invariant-loop-i table s₀ t₀ i₀ s t i =
     (table ≡ constants) × (i ≤ 24) × (i % 2 ≡ 0) × (length s ≡ 5) × (length t ≡ 5) × (held_rounds (drop i constants) s ≡ held_rounds constants s₀)
 
-abbrev decreases-loop : tie.decreases-loop
-decreases-loop table s₀ t₀ i₀ s t i = 24 - i
+abbrev decreases-loop-i : tie.decreases-loop-i
+decreases-loop-i table s₀ t₀ i₀ s t i = 24 - i
 
 one_more : (i : ℕ) (s : List (List ℕ)) → i < 24 → held_rounds (drop i constants) s ≡ held_rounds (drop (i + 1) constants) (held_round (get_or constants i 0) s)
 unfolding held_rounds constants
@@ -35,17 +35,17 @@ five_rows : (rc : ℕ) (s : List (List ℕ)) → length (held_round rc s) ≡ 5
 unfolding held_round
 five_rows rc s = refl
 
-loop-holds : tie.Need-loop-init invariant-loop decreases-loop
+loop-holds : tie.Need-loop-i-init invariant-loop-i decreases-loop-i
 unfolding constants
-loop-holds c = (refl, omega arith, omega arith, ap length c.flip.ensures, refl, refl)
+loop-holds c = (refl, omega arith, omega arith, ap length c.flip-s.ensures, refl, refl)
 
-loop-again : tie.Need-loop-preserved invariant-loop decreases-loop
+loop-again : tie.Need-loop-i-preserved invariant-loop-i decreases-loop-i
 loop-again c =
-    let l = c.before.before.before.before.before.before.before.loop in
+    let l = c.loop-i in
     let i = l.i in
     let e = l.invariant.0 in
-    let first = c.before.before.before.round.ensures ∙ ap (λ (xs : List ℕ). held_round (get_or xs i 0) l.s) e in
-    let second = c.round2.ensures ∙ ap (λ (xs : List ℕ). held_round (get_or xs (i + 1) 0) c.before.before.before.round.new.1.1.0) e ∙
+    let first = c.round.ensures ∙ ap (λ (xs : List ℕ). held_round (get_or xs i 0) l.s) e in
+    let second = c.round-in-loop-i.ensures ∙ ap (λ (xs : List ℕ). held_round (get_or xs (i + 1) 0) c.round.new.out) e ∙
     ap (held_round (get_or constants (i + 1) 0)) first in (
       e,
       omega arith,
@@ -55,22 +55,22 @@ loop-again c =
       ap (held_rounds (drop (i + 2) constants)) second ∙ sym (two_more i l.s (omega arith)) ∙ l.invariant.5,
     )
 
-returns : tie.Need-returns invariant-loop decreases-loop
+returns : tie.Need-returns invariant-loop-i decreases-loop-i
 unfolding held_rounds constants
 returns c =
-    let l = c.before.before.loop in
+    let l = c.loop-i in
     let e : l.i ≡ 24 = omega arith in
     let all = rw e at l.invariant.5 in
-    c.flip2.ensures ∙ ap flipped (all ∙ ap (held_rounds constants) c.before.before.before.flip.ensures) ∙
-    keccak_held c.before.before.before.before.args.a
-    (lanes_below c.before.before.before.before.args.a _ c.before.before.before.before.well-formed.0)
+    c.flip.ensures ∙ ap flipped (all ∙ ap (held_rounds constants) c.flip-s.ensures) ∙
+    keccak_held c.args.a
+    (lanes_below c.args.a _ c.well_formed.0)
 
 pub permute_spec : {M : Type 1} → statement M
 permute_spec =
     tie.close
     (tie.spec
-    invariant-loop
-    decreases-loop
+    invariant-loop-i
+    decreases-loop-i
     (λ c κs. search rules)
     loop-holds
     (λ c. omega arith)

@@ -17,11 +17,11 @@ again d = get_or d 0 0 ∷ get_or d 1 0 ∷ get_or d 2 0 ∷ get_or d 3 0 ∷ ge
 returns : tie.Need-returns
 unfolding held_round
 returns c =
-    let a = c.before.before.before.before.before.before.args in
-    stored a.out.now (row (held_lane a.rc (again c.before.before.before.before.before.effect.result) a.a.now))
-    c.before.before.before.before.row0.ensures c.before.before.before.row1.ensures c.before.before.row2.ensures
-    c.before.row3.ensures c.row4.ensures c.before.before.before.before.before.before.requires ∙
-    ap (λ (d : List ℕ). state (held_lane a.rc (again d) a.a.now)) c.before.before.before.before.before.effect.ensures
+    let a = c.args in
+    stored a.out.now (row (held_lane a.rc (again c.effect-d.result) a.a.now))
+    c.row0.ensures c.row1.ensures c.row2.ensures
+    c.row3.ensures c.row4.ensures c.requires ∙
+    ap (λ (d : List ℕ). state (held_lane a.rc (again d) a.a.now)) c.effect-d.ensures
 
 pub round_spec : {M : Type 1} → statement M
 round_spec =

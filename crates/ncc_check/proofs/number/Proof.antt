@@ -7,50 +7,50 @@ use Rattle.ncc_check.proofs.Lengths.{short_is_1, whole}
 use borrow.Author.Rules.{rules}
 use Rattle.ncc_check.proofs.number.Statement.{statement}
 use Rattle.ncc_check.proofs.number.Tie as tie
-use Places.{ends-early, after-check-arg, done}
+use Places.{ends_early, after-check-arg-1, done}
 
--- place ends-early = Then1
+-- place ends_early = Then-input-lt-HEAD
 -- place checked = After-check
--- place done = After-report
+-- place done = After-report-report
 
-returns : tie.Need-returns
+returns : tie.Need-returns-then-input-lt-HEAD
 returns c =
-    let at = ends-early c in
-    sym (short_is_1 at.start.args.input.now _ _ (sym public_size_lem) (sym signature_size_lem) c.if1.true)
+    let at = ends_early c in
+    sym (short_is_1 at.start.args.input.now _ _ (sym public_size_lem) (sym signature_size_lem) c.if-input-lt-HEAD.true)
 
-slice_aggregate_check : tie.Need-slice-aggregate-check
+slice_aggregate_check : tie.Need-slice_bounds-check-end
 slice_aggregate_check c =
-    let at = after-check-arg c in
+    let at = after-check-arg-1 c in
     sym (length-take-le _ at.start.args.input.now (omega arith))
 
-sub_check : tie.Need-overflow-sub-check
+sub_check : tie.Need-slice_bounds-check-count
 sub_check c = search rules
 
-part_check_start : tie.Need-slice-bounds-check-start
+part_check_start : tie.Need-slice_bounds-check-start
 part_check_start c = search rules
 
-part_check_end : tie.Need-slice-bounds-check-end
+part_check_end : tie.Need-slice_bounds-check-end
 part_check_end c = search rules
 
-sub_check_2 : tie.Need-overflow-sub-check-2
+sub_check_2 : tie.Need-slice_bounds-check-count-2
 sub_check_2 c = search rules
 
-part_check_start_2 : tie.Need-slice-bounds-check-start-2
+part_check_start_2 : tie.Need-slice_bounds-check-start-2
 part_check_start_2 c = search rules
 
-part_check_end_2 : tie.Need-slice-bounds-check-end-2
+part_check_end_2 : tie.Need-slice_bounds-check-end-2
 part_check_end_2 c = search rules
 
 check_requires : tie.Need-check-requires
 check_requires c κs = search rules
 
-report_requires : tie.Need-report-requires
+report_requires : tie.Need-report-report-requires
 report_requires c κs = search rules
 
-returns-2 : tie.Need-returns-2
+returns-2 : tie.Need-returns
 returns-2 c =
     let at = done c in
-    whole at.start.args.input.now _ _ (sym public_size_lem) (sym signature_size_lem) c.report.result (c.report.ensures ∙ at.checked.check.ensures)
+    whole at.start.args.input.now _ _ (sym public_size_lem) (sym signature_size_lem) c.report-report.result (c.report-report.ensures ∙ at.checked.check.ensures)
 
 pub number_spec : {M : Type 1} → statement M
 number_spec =

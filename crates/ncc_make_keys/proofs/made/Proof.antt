@@ -7,65 +7,65 @@ use Rattle.ncc_make_keys.proofs.Cut.{cut_short, whole}
 use borrow.Author.Rules.{rules}
 use Rattle.ncc_make_keys.proofs.made.Statement.{statement}
 use Rattle.ncc_make_keys.proofs.made.Tie as tie
-use Places.{short-done, after-make-keys-arg4, done}
+use Places.{short_done, after-make_keys-arg-2-1, done}
 
--- place short = Then1
--- place short-made = After-make-keys
--- place short-done = After-slice-known4
--- place whole-made = After-make-keys2
--- place done = After-slice-known6
+-- place short = Then-input-lt-SEED
+-- place short_made = After-make_keys
+-- place short_done = After-slice_known-then-input-lt-SEED-2-1
+-- place whole_made = After-make_keys-2
+-- place done = After-slice_known-4-1
 
-slice_aggregate_make_keys : tie.Need-slice-aggregate-make-keys
+slice_aggregate_make_keys : tie.Need-slice_aggregate-make-keys
 slice_aggregate_make_keys c = search rules
 
-make_keys_requires : tie.Need-make-keys-requires
+make_keys_requires : tie.Need-make_keys-requires
 make_keys_requires c κs = search rules
 
-same_length : tie.Need-same-length
+same_length : tie.Need-shape_of-public-then-input-lt-SEED
 same_length c = search rules
 
-same_length_2 : tie.Need-same-length-2
+same_length_2 : tie.Need-shape_of-secret-then-input-lt-SEED
 same_length_2 c = search rules
 
-returns : tie.Need-returns
+returns : tie.Need-returns-then-input-lt-SEED
 returns c =
-    let at = short-done c in
+    let at = short_done c in
     let pk = at.start.args.public.now in
     let sk = at.start.args.secret.now in
-    cut_short at.start.args.input.now pk sk record { public = pk; secret = sk } (report_of at.short-made.make_keys.result)
-    record { public = (at.short-made.make_keys.last).1.1.0; secret = (at.short-made.make_keys.last).1.1.1.0 }
-    at.short.if1.taken at.short-made.make_keys.ensures
+    cut_short at.start.args.input.now pk sk record { public = pk; secret = sk } (report_of at.short_made.make_keys.result)
+    record { public = (at.short_made.make_keys.last).1.1.0; secret = (at.short_made.make_keys.last).1.1.1.0 }
+    at.short.if-input-lt-SEED.taken at.short_made.make_keys.ensures
 
-slice_aggregate_make_keys_2 : tie.Need-slice-aggregate-make-keys-2
+slice_aggregate_make_keys_2 : tie.Need-slice_bounds-make_keys-end-2
 slice_aggregate_make_keys_2 c =
-    let at = after-make-keys-arg4 c in
+    let at = after-make_keys-arg-2-1 c in
     sym (length-take-le _ at.start.args.input.now (omega arith))
 
-sub_make_keys : tie.Need-overflow-sub-make-keys
+sub_make_keys : tie.Need-slice_bounds-make_keys-count
 sub_make_keys c = search rules
 
-part_make_keys_start : tie.Need-slice-bounds-make-keys-start
+part_make_keys_start : tie.Need-slice_bounds-make-keys-start
 part_make_keys_start c = search rules
 
-part_make_keys_end : tie.Need-slice-bounds-make-keys-end
+part_make_keys_end : tie.Need-slice_bounds-make-keys-end
 part_make_keys_end c = search rules
 
-make_keys_requires_2 : tie.Need-make-keys-requires-2
+make_keys_requires_2 : tie.Need-make_keys-requires-2
 make_keys_requires_2 c κs = search rules
 
-same_length_3 : tie.Need-same-length-3
+same_length_3 : tie.Need-shape_of-public
 same_length_3 c = search rules
 
-same_length_4 : tie.Need-same-length-4
+same_length_4 : tie.Need-shape_of-secret
 same_length_4 c = search rules
 
-returns-2 : tie.Need-returns-2
+returns-2 : tie.Need-returns
 returns-2 c =
     let at = done c in
     let pk = at.start.args.public.now in
     let sk = at.start.args.secret.now in
-    whole at.start.args.input.now pk sk record { public = pk; secret = sk } (report_of at.whole-made.make-keys2.result)
-    record { public = (at.whole-made.make-keys2.last).1.1.0; secret = (at.whole-made.make-keys2.last).1.1.1.0 } at.whole-made.make-keys2.ensures
+    whole at.start.args.input.now pk sk record { public = pk; secret = sk } (report_of at.whole_made.make_keys-2.result)
+    record { public = (at.whole_made.make_keys-2.last).1.1.0; secret = (at.whole_made.make_keys-2.last).1.1.1.0 } at.whole_made.make_keys-2.ensures
 
 pub made_spec : {M : Type 1} → statement M
 made_spec =

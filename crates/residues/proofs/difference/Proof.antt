@@ -7,13 +7,13 @@ use Rattle.residues.proofs.Machine.{back, sub_fits, machine_sub}
 use Rattle.residues.proofs.difference.Statement.{statement}
 use Rattle.residues.proofs.difference.Tie as tie
 
-cast_result : tie.Need-overflow-cast-result
+cast_result : tie.Need-overflow_cast-result
 cast_result c = search rules
 
-cast_result_2 : tie.Need-overflow-cast-result-2
+cast_result_2 : tie.Need-overflow_cast-result-2
 cast_result_2 c = search rules
 
-sub_result : tie.Need-overflow-sub-result
+sub_result : tie.Need-overflow_sub-result
 sub_result c =
     subst (SFits w32) (sym (machine_sub c.args.a c.args.b c.requires.0 c.requires.1))
     (record { sfits = sub_fits c.args.a c.args.b c.requires.0 c.requires.1 })

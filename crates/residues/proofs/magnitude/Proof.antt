@@ -9,17 +9,17 @@ use borrow.Author.Rules.{rules}
 use Rattle.residues.proofs.magnitude.Statement.{statement}
 use Rattle.residues.proofs.magnitude.Tie as tie
 
-sub_result : tie.Need-overflow-sub-result
+sub_result : tie.Need-overflow_sub-result
 sub_result c = search rules
 
-returns : tie.Need-returns
-returns c = sym (ap nat_abs (signed_low c.before.args.q c.before.args.x c.if1.true))
+returns : tie.Need-returns-then-x-q
+returns c = sym (ap nat_abs (signed_low c.args.q c.args.x c.if-x-q.true))
 
-returns-2 : tie.Need-returns-2
+returns-2 : tie.Need-returns-else-x-q
 returns-2 c =
-    let a = c.before.args in
+    let a = c.args in
     let e = abs_sub a.x a.q in
-    sym (ap nat_abs (signed_high a.q a.x c.if1.false) ∙ e ∙ less a.q a.x c.before.requires)
+    sym (ap nat_abs (signed_high a.q a.x c.if-x-q.false) ∙ e ∙ less a.q a.x c.requires)
   where
     less : (q x : ℕ) → x < q → (x - q) + (q - x) ≡ q - x
     less q x l = omega arith

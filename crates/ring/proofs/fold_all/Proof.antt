@@ -1,15 +1,14 @@
 -- Every coefficient is folded in, walked. Places are named below; `places ring fold_all` makes Proof/Places.antt of the names.
--- place cleared = After-clear-numbers: the output holds zeros
--- place begins = After-slice-known2
--- place head = At-loop
--- place turn = In-loop
--- place ended = After-loop
--- place read = After-shared-slice-known2
--- place reduced = After-modulo: the coefficient is reduced
--- place to-fold = After-fold-in-arg
--- place folded = After-fold-in: and added
--- place turned = After-slice-known3
-mod Invariants
+-- place cleared = After-clear_numbers: the output holds zeros
+-- place begins = After-slice_known-2-1
+-- place head = At-loop-e
+-- place turn = In-loop-e
+-- place ended = After-loop-e
+-- place read = After-shared_slice_known-in-loop-e-1
+-- place reduced = After-modulo-c: the coefficient is reduced
+-- place to_fold = After-fold_in-arg-1
+-- place folded = After-fold_in: and added
+-- place turned = After-slice_known-in-loop-e-1
 mod Places
 use mathlib.Core.Path.{◌≡◌, refl, ap, ◌∙◌}
 use Prim.Native.Nat.{ℕ, ◌+◌, ◌-◌, ◌*◌, ◌<◌, ◌≤◌}
@@ -19,8 +18,7 @@ use Rattle.ring.proofs.Engine.{reached_none, can_fold, reached_more, reached_all
 use borrow.Author.Rules.{rules}
 use Rattle.ring.proofs.fold_all.Statement.{statement}
 use Rattle.ring.proofs.fold_all.Tie as tie
-use Invariants.{InvLoop, μ_loop}
-use Places.{begins, ended, read, to-fold, turned}
+use Places.{begins, ended, read, to_fold, turned}
 
 none : {n : ℕ} → 0 ≤ n
 none = omega arith
@@ -32,64 +30,64 @@ one_more l = omega arith
 at_end : (e count n : ℕ) → count ≡ 2 * n - 1 → e ≤ count → count ≤ e → e ≡ 2 * n - 1
 at_end e count n c l m = omega arith
 
-mul_count : tie.Need-overflow-mul-count InvLoop μ_loop
+mul_count : tie.Need-overflow_mul-count invariant-loop-e decreases-loop-e
 mul_count c = search rules
 
-sub_count : tie.Need-overflow-sub-count InvLoop μ_loop
+sub_count : tie.Need-overflow_sub-count invariant-loop-e decreases-loop-e
 sub_count c = search rules
 
-clear_numbers_requires : tie.Need-clear-numbers-requires InvLoop μ_loop
+clear_numbers_requires : tie.Need-clear_numbers-requires invariant-loop-e decreases-loop-e
 clear_numbers_requires c κs = search rules
 
-loop-holds : tie.Need-loop-init InvLoop μ_loop
+loop-holds : tie.Need-loop-e-init invariant-loop-e decreases-loop-e
 loop-holds c =
     let at = begins c in
-    let suits = at.start.pre.0 in
-    let zeros = at.cleared.clear_numbers.ensures ∙ ap (λ (n : ℕ). replicate n 0) at.start.pre.1.1 in
-    (suits, refl, refl, at.start.pre.1.0, none, reached_none _ suits _ _ zeros)
+    let suits = at.start.requires.0 in
+    let zeros = at.cleared.clear_numbers.ensures ∙ ap (λ (n : ℕ). replicate n 0) at.start.requires.1.1 in
+    (suits, refl, refl, at.start.requires.1.0, none, reached_none _ suits _ _ zeros)
 
-mul_modulo : tie.Need-overflow-mul-modulo InvLoop μ_loop
+mul_modulo : tie.Need-offset_bounds-sums-e invariant-loop-e decreases-loop-e
 mul_modulo c = search rules
 
-shared_slice_read_modulo : tie.Need-shared-slice-read-modulo InvLoop μ_loop
+shared_slice_read_modulo : tie.Need-bounds-sums-e invariant-loop-e decreases-loop-e
 shared_slice_read_modulo c = search rules
 
-modulo_requires : tie.Need-modulo-requires InvLoop μ_loop
-modulo_requires c κs = q_some _ (read c).head.loop.inv.0
+modulo_requires : tie.Need-modulo-c-requires invariant-loop-e decreases-loop-e
+modulo_requires c κs = q_some _ (read c).head.loop-e.inv.0
 
-fold_in_requires : tie.Need-fold-in-requires InvLoop μ_loop
+fold_in_requires : tie.Need-fold_in-requires invariant-loop-e decreases-loop-e
 fold_in_requires c κs =
-    let l = (to-fold c).head.loop in
-    let below = rw l.inv.2 at (to-fold c).turn.loop-test.taken in
-    rw (l.inv.1, (to-fold c).reduced.modulo.ensures) (can_fold _ l.inv.0 _ _ l.e l.inv.5 below)
+    let l = (to_fold c).head.loop-e in
+    let below = rw l.inv.2 at (to_fold c).turn.loop-e-test.taken in
+    rw (l.inv.1, (to_fold c).reduced.modulo-c.ensures) (can_fold _ l.inv.0 _ _ l.e l.inv.5 below)
 
-add_e : tie.Need-overflow-add-e InvLoop μ_loop
+add_e : tie.Need-overflow_add-e invariant-loop-e decreases-loop-e
 add_e c = search rules
 
-loop-less : tie.Need-loop-smaller InvLoop μ_loop
+loop-less : tie.Need-loop-e-smaller invariant-loop-e decreases-loop-e
 loop-less c = search rules
 
-loop-again : tie.Need-loop-preserved InvLoop μ_loop
+loop-again : tie.Need-loop-e-preserved invariant-loop-e decreases-loop-e
 loop-again c =
-    let l = (turned c).head.loop in
-    let added = rw (l.inv.1, (turned c).reduced.modulo.ensures) at (turned c).folded.fold-in.ensures in
-    let further = one_more (turned c).turn.loop-test.taken in
+    let l = (turned c).head.loop-e in
+    let added = rw (l.inv.1, (turned c).reduced.modulo-c.ensures) at (turned c).folded.fold_in.ensures in
+    let further = one_more (turned c).turn.loop-e-test.taken in
     (l.inv.0, l.inv.1, l.inv.2, l.inv.3, further, reached_more _ l.inv.0 _ _ _ l.e l.inv.5 added)
 
-same_length : tie.Need-same-length InvLoop μ_loop
+same_length : tie.Need-shape_of-out invariant-loop-e decreases-loop-e
 same_length c = search rules
 
-returns : tie.Need-returns InvLoop μ_loop
+returns : tie.Need-returns invariant-loop-e decreases-loop-e
 returns c =
-    let l = (ended c).head.loop in
-    reached_all _ l.inv.0 _ _ l.e l.inv.5 (at_end _ _ _ l.inv.2 l.inv.4 c.loop-test.false)
+    let l = (ended c).head.loop-e in
+    reached_all _ l.inv.0 _ _ l.e l.inv.5 (at_end _ _ _ l.inv.2 l.inv.4 c.loop-e-test.false)
 
 pub fold_all_spec : {M : Type 1} → statement M
 fold_all_spec =
     tie.close
     (tie.spec
-    InvLoop
-    μ_loop
+    invariant-loop-e
+    decreases-loop-e
     mul_count
     sub_count
     clear_numbers_requires

@@ -7,57 +7,57 @@ use native.Mathlib.Omega.{arith}
 use Rattle.ring.proofs.pad.Statement.{statement}
 use Rattle.ring.proofs.pad.Tie as tie
 
-abbrev invariant-loop : tie.invariant-loop
-invariant-loop b out₀ k₀ out k = Padding b k out
+abbrev invariant-loop-k : tie.invariant-loop-k
+invariant-loop-k b out₀ k₀ out k = Padding b k out
 
-abbrev decreases-loop : tie.decreases-loop
-decreases-loop b out₀ k₀ out k = length b - k
+abbrev decreases-loop-k : tie.decreases-loop-k
+decreases-loop-k b out₀ k₀ out k = length b - k
 
-clear_words_requires : tie.Need-clear-words-requires invariant-loop decreases-loop
+clear_words_requires : tie.Need-clear_words-requires invariant-loop-k decreases-loop-k
 clear_words_requires c κs = search rules
 
-loop-holds : tie.Need-loop-init invariant-loop decreases-loop
-loop-holds c = padding_none _ _ (c.before.before.clear-words.ensures ∙ ap (λ (n : ℕ). replicate n 0) c.before.before.before.before.before.before.requires)
+loop-holds : tie.Need-loop-k-init invariant-loop-k decreases-loop-k
+loop-holds c = padding_none _ _ (c.clear_words.ensures ∙ ap (λ (n : ℕ). replicate n 0) c.requires)
 
-mul_out : tie.Need-overflow-mul-out invariant-loop decreases-loop
+mul_out : tie.Need-offset_bounds-b-k invariant-loop-k decreases-loop-k
 mul_out c = search rules
 
-shared_slice_read_out : tie.Need-shared-slice-read-out invariant-loop decreases-loop
+shared_slice_read_out : tie.Need-bounds-b-k invariant-loop-k decreases-loop-k
 shared_slice_read_out c = search rules
 
-cast_out : tie.Need-overflow-cast-out invariant-loop decreases-loop
-cast_out c = omega (arith, c.shared-slice-known2.given c.before.before.loop.k)
+cast_out : tie.Need-overflow_cast-out invariant-loop-k decreases-loop-k
+cast_out c = omega (arith, c.shared_slice_known-in-loop-k-1.given c.loop-k.k)
 
-add_out : tie.Need-overflow-add-out invariant-loop decreases-loop
+add_out : tie.Need-overflow_add-out invariant-loop-k decreases-loop-k
 add_out c = search rules
 
-mul_out_2 : tie.Need-overflow-mul-out-2 invariant-loop decreases-loop
+mul_out_2 : tie.Need-offset_bounds-out-k invariant-loop-k decreases-loop-k
 mul_out_2 c = search rules
 
-slice_write_out : tie.Need-slice-write-out invariant-loop decreases-loop
+slice_write_out : tie.Need-bounds-out-k invariant-loop-k decreases-loop-k
 slice_write_out c = search rules
 
-add_k : tie.Need-overflow-add-k invariant-loop decreases-loop
+add_k : tie.Need-overflow_add-k invariant-loop-k decreases-loop-k
 add_k c = search rules
 
-loop-less : tie.Need-loop-smaller invariant-loop decreases-loop
+loop-less : tie.Need-loop-k-smaller invariant-loop-k decreases-loop-k
 loop-less c = search rules
 
-loop-again : tie.Need-loop-preserved invariant-loop decreases-loop
-loop-again c = padding_more _ c.before.before.loop.k c.before.before.loop.out c.before.before.loop.invariant c.before.loop-test.true
+loop-again : tie.Need-loop-k-preserved invariant-loop-k decreases-loop-k
+loop-again c = padding_more _ c.loop-k.k c.loop-k.out c.loop-k.invariant c.loop-k-test.true
 
-same_length : tie.Need-same-length invariant-loop decreases-loop
+same_length : tie.Need-shape_of-out invariant-loop-k decreases-loop-k
 same_length c = search rules
 
-returns : tie.Need-returns invariant-loop decreases-loop
-returns c = padded _ c.before.loop.k c.before.loop.out c.before.loop.invariant c.loop-test.false
+returns : tie.Need-returns invariant-loop-k decreases-loop-k
+returns c = padded _ c.loop-k.k c.loop-k.out c.loop-k.invariant c.loop-k-test.false
 
 pub pad_spec : {M : Type 1} → statement M
 pad_spec =
     tie.close
     (tie.spec
-    invariant-loop
-    decreases-loop
+    invariant-loop-k
+    decreases-loop-k
     clear_words_requires
     loop-holds
     mul_out

@@ -5,13 +5,13 @@ use borrow.Author.Rules.{rules}
 use Rattle.ring.proofs.times.Statement.{statement}
 use Rattle.ring.proofs.times.Tie as tie
 
-cast_result : tie.Need-overflow-cast-result
+cast_result : tie.Need-overflow_cast-result-2
 cast_result c = search rules
 
-cast_result_2 : tie.Need-overflow-cast-result-2
+cast_result_2 : tie.Need-overflow_cast-result-3
 cast_result_2 c = search rules
 
-mul_result : tie.Need-overflow-mul-result
+mul_result : tie.Need-overflow_mul-result
 mul_result c =
     let a = c.args.a in
     let b = c.args.b in

@@ -11,30 +11,30 @@ use Rattle.rounding.proofs.high_of.Tie as tie
 room : (c : tie.Start) → Room c.args.p c.args.x
 room c = room_of c.args.p c.requires.0 c.args.x
 
-add_wrap : tie.Need-overflow-add-wrap
+add_wrap : tie.Need-overflow_add-x
 add_wrap c = omega (arith, room c)
 
-wrap_requires : tie.Need-wrap-requires
+wrap_requires : tie.Need-wrap-u-requires
 wrap_requires c κs = omega (arith, room c)
 
-mul_quotient : tie.Need-overflow-mul-quotient
+mul_quotient : tie.Need-overflow_mul-g
 mul_quotient c = omega (arith, room c.before.before)
 
-sub_quotient : tie.Need-overflow-sub-quotient
+sub_quotient : tie.Need-overflow_sub-u
 sub_quotient c = search rules
 
 quotient_requires : tie.Need-quotient-requires
 quotient_requires c κs = search rules
 
-returns : tie.Need-returns
+returns : tie.Need-returns-then-u-eq0
 returns c =
     let s = c.before.before in
-    sym (high_small s.args.p s.requires.0 s.args.x s.requires.1 ∙ step_zero s.args.p _ (sym c.before.wrap.ensures ∙ c.if1.true))
+    sym (high_small s.args.p s.requires.0 s.args.x s.requires.1 ∙ step_zero s.args.p _ (sym c.wrap-u.ensures ∙ c.if-u-eq0.true))
 
-returns-2 : tie.Need-returns-2
+returns-2 : tie.Need-returns-else-u-eq0
 returns-2 c =
     let s = c.before.before.before in
-    c.quotient.ensures ∙ ap (step_of s.args.p) c.before.before.wrap.ensures ∙
+    c.quotient.ensures ∙ ap (step_of s.args.p) c.wrap-u.ensures ∙
     sym (high_small s.args.p s.requires.0 s.args.x s.requires.1)
 
 pub high_of_spec : {M : Type 1} → statement M

@@ -11,54 +11,54 @@ use Rattle.rounding.proofs.low_of.Tie as tie
 room : (c : tie.Start) → Room c.args.p c.args.x
 room c = room_of c.args.p c.requires.0 c.args.x
 
-high_is : (c : tie.After-quotient) → c.quotient.result ≡ step_of c.before.before.before.args.p
-    (offset c.before.before.before.args.p c.before.before.before.args.x)
-high_is c = c.quotient.ensures ∙ ap (step_of c.before.before.before.args.p) c.before.before.wrap.ensures
+high_is : (c : tie.After-quotient) → c.quotient.result ≡ step_of c.args.p
+    (offset c.args.p c.args.x)
+high_is c = c.quotient.ensures ∙ ap (step_of c.args.p) c.wrap-u.ensures
 
-add_wrap : tie.Need-overflow-add-wrap
+add_wrap : tie.Need-overflow_add-x
 add_wrap c = omega (arith, room c)
 
-wrap_requires : tie.Need-wrap-requires
+wrap_requires : tie.Need-wrap-u-requires
 wrap_requires c κs = omega (arith, room c)
 
-returns : tie.Need-returns
+returns : tie.Need-returns-then-u-eq0
 returns c =
     let s = c.before.before in
-    sym (low_zero s.args.p s.requires.0 s.args.x s.requires.1 (sym c.before.wrap.ensures ∙ c.if1.true))
+    sym (low_zero s.args.p s.requires.0 s.args.x s.requires.1 (sym c.wrap-u.ensures ∙ c.if-u-eq0.true))
 
-mul_quotient : tie.Need-overflow-mul-quotient
+mul_quotient : tie.Need-overflow_mul-g
 mul_quotient c = omega (arith, room c.before.before)
 
-sub_quotient : tie.Need-overflow-sub-quotient
+sub_quotient : tie.Need-overflow_sub-u
 sub_quotient c = search rules
 
 quotient_requires : tie.Need-quotient-requires
 quotient_requires c κs = search rules
 
-mul_middle : tie.Need-overflow-mul-middle
+mul_middle : tie.Need-overflow_mul-middle
 mul_middle c = omega (arith, room c.before.before.before)
 
-mul_middle_2 : tie.Need-overflow-mul-middle-2
+mul_middle_2 : tie.Need-overflow_mul-middle-2
 mul_middle_2 c = rw (high_is c) (omega (arith, room c.before.before.before))
 
-add_middle : tie.Need-overflow-add-middle
+add_middle : tie.Need-overflow_add-middle
 add_middle c = rw (high_is c) (omega (arith, room c.before.before.before))
 
-sub_result : tie.Need-overflow-sub-result
+sub_result : tie.Need-overflow_sub-result-else-middle-u
 sub_result c = search rules
 
-returns-2 : tie.Need-returns-2
+returns-2 : tie.Need-returns-then-middle-u
 returns-2 c =
     let s = c.before.before.before.before in
     let e = low_small s.args.p s.requires.0 s.args.x s.requires.1 in
-    let t = rw (high_is c.before) at c.if2.true in
+    let t = rw (high_is c.before) at c.if-middle-u.true in
     rw (high_is c.before) (omega arith)
 
-returns-3 : tie.Need-returns-3
+returns-3 : tie.Need-returns-else-middle-u
 returns-3 c =
     let s = c.before.before.before.before in
     let e = low_small s.args.p s.requires.0 s.args.x s.requires.1 in
-    let t = rw (high_is c.before) at c.if2.false in
+    let t = rw (high_is c.before) at c.if-middle-u.false in
     rw (high_is c.before) (omega arith)
 
 pub low_of_spec : {M : Type 1} → statement M

@@ -34,28 +34,28 @@ facts c =
       part = div-mul-le_self (c.args.x + (shift p - 1)) (2 * shift p);
     }
 
-sub_half : tie.Need-overflow-sub-half
-sub_half c = d_pos c.before.args.p c.before.requires.0
+sub_half : tie.Need-overflow_sub-half
+sub_half c = d_pos c.args.p c.requires.0
 
-shl_half : tie.Need-overflow-shl-half
+shl_half : tie.Need-overflow_shl-half
 shl_half c = search rules
 
-sub_high : tie.Need-overflow-sub-high
+sub_high : tie.Need-overflow_sub-high
 sub_high c = omega (arith, facts c.before)
 
-add_high : tie.Need-overflow-add-high
+add_high : tie.Need-overflow_add-high
 add_high c = omega (arith, facts c.before)
 
-mul_high : tie.Need-overflow-mul-high
+mul_high : tie.Need-overflow_mul-high
 mul_high c = omega (arith, facts c.before)
 
-div_high : tie.Need-nonzero-div-high
+div_high : tie.Need-nonzero_div-high
 div_high c = omega (arith, facts c.before)
 
-mul_difference : tie.Need-overflow-mul-difference
+mul_difference : tie.Need-overflow_mul-half
 mul_difference c = omega (arith, facts c.before)
 
-mul_difference_2 : tie.Need-overflow-mul-difference-2
+mul_difference_2 : tie.Need-overflow_mul-high-2
 mul_difference_2 c = omega (arith, facts c.before)
 
 difference_requires : tie.Need-difference-requires

@@ -9,20 +9,20 @@ use Rattle.set1.proofs.Suits.{suits}
 use borrow.Author.Rules.{rules}
 use Rattle.set1.proofs.check.Statement.{statement}
 use Rattle.set1.proofs.check.Tie as tie
-use Places.{after-work, done}
+use Places.{after-work-1, done}
 
 -- place answered = After-check
--- place done = After-work2
+-- place done = After-work-2-1
 
 numbers_requires : tie.Need-numbers-requires
 numbers_requires c κs = search rules
 
-slice_aggregate_check : tie.Need-slice-aggregate-check
+slice_aggregate_check : tie.Need-slice_bounds-check-end
 slice_aggregate_check c = search rules
 
 check_requires : tie.Need-check-requires
 check_requires c κs =
-    let at = after-work c in
+    let at = after-work-1 c in
     suits _ at.after-numbers.numbers.ensures
 
 returns : tie.Need-returns

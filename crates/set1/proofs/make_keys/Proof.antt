@@ -10,26 +10,26 @@ use Rattle.set1.proofs.Suits.{suits}
 use borrow.Author.Rules.{rules}
 use Rattle.set1.proofs.make_keys.Statement.{statement}
 use Rattle.set1.proofs.make_keys.Tie as tie
-use Places.{after-work, done}
+use Places.{after-work-1, done}
 
--- place answered = After-make-keys
--- place done = After-work2
+-- place answered = After-make_keys
+-- place done = After-work-2-1
 
 numbers_requires : tie.Need-numbers-requires
 numbers_requires c κs = search rules
 
-slice_aggregate_make_keys : tie.Need-slice-aggregate-make-keys
+slice_aggregate_make_keys : tie.Need-slice_bounds-make_keys-end
 slice_aggregate_make_keys c = search rules
 
-make_keys_requires : tie.Need-make-keys-requires
+make_keys_requires : tie.Need-make_keys-requires
 make_keys_requires c κs =
-    let at = after-work c in
+    let at = after-work-1 c in
     suits _ at.after-numbers.numbers.ensures
 
-same_length : tie.Need-same-length
+same_length : tie.Need-shape_of-public
 same_length c = search rules
 
-same_length_2 : tie.Need-same-length-2
+same_length_2 : tie.Need-shape_of-secret
 same_length_2 c = search rules
 
 returns : tie.Need-returns

@@ -9,23 +9,23 @@ use Rattle.set1.proofs.Suits.{suits}
 use borrow.Author.Rules.{rules}
 use Rattle.set1.proofs.sign.Statement.{statement}
 use Rattle.set1.proofs.sign.Tie as tie
-use Places.{after-work, done}
+use Places.{after-work-1, done}
 
 -- place answered = After-sign
--- place done = After-work2
+-- place done = After-work-2-1
 
 numbers_requires : tie.Need-numbers-requires
 numbers_requires c κs = search rules
 
-slice_aggregate_sign : tie.Need-slice-aggregate-sign
+slice_aggregate_sign : tie.Need-slice_bounds-sign-end
 slice_aggregate_sign c = search rules
 
 sign_requires : tie.Need-sign-requires
 sign_requires c κs =
-    let at = after-work c in
+    let at = after-work-1 c in
     suits _ at.after-numbers.numbers.ensures
 
-same_length : tie.Need-same-length
+same_length : tie.Need-shape_of-signature
 same_length c = search rules
 
 returns : tie.Need-returns

@@ -1,11 +1,11 @@
 -- `shake::shake256` meets its contract. Assumes nothing. Places are named below; `places shake shake256` makes Proof/Places.antt of the names.
--- place first-in = After-part: each part is taken in
--- place second-in = After-part2
--- place third-in = After-part3
+-- place first_in = After-part-s1: each part is taken in
+-- place second_in = After-part-s2
+-- place third_in = After-part-s3
 -- place padded = After-pad: the last block is padded
--- place absorbed = After-blocks2: and absorbed
+-- place absorbed = After-blocks-s: and absorbed
 -- place given = After-squeeze: the output is filled
--- place done = After-slice-known2
+-- place done = After-slice_known-2-1
 mod Places
 use Prim.Native.Nat.{ℕ, ◌+◌, ◌/◌, ◌%◌}
 use mathlib.Core.Path.{refl, ◌∙◌, ap}
@@ -29,16 +29,16 @@ returns c =
     let p1 = length a % 136 in
     let p2 = (p1 + length b % 136) % 136 in
     let p3 = (p2 + length d % 136) % 136 in
-    let held1 = at.first-in.part.last.1.0 in
-    let held2 = at.second-in.part2.last.1.0 in
-    let held3 = at.third-in.part3.last.1.0 in
-    let t1 = taken_more [] a (replicate 136 0) zeros 0 (taken_none (replicate 136 0)) refl at.first-in.part.ensures in
-    let t2 = taken_more a b held1 at.first-in.part.result p1 t1 refl at.second-in.part2.ensures in
+    let held1 = at.first_in.part-s1.new.held in
+    let held2 = at.second_in.part-s2.new.held in
+    let held3 = at.third_in.part-s3.new.held in
+    let t1 = taken_more [] a (replicate 136 0) zeros 0 (taken_none (replicate 136 0)) refl at.first_in.part-s1.ensures in
+    let t2 = taken_more a b held1 at.first_in.part-s1.result p1 t1 refl at.second_in.part-s2.ensures in
     let e2 = place a b p1 refl in
-    let t3 = taken_more (a ++ b) d held2 at.second-in.part2.result p2 t2 e2 at.third-in.part3.ensures in
+    let t3 = taken_more (a ++ b) d held2 at.second_in.part-s2.result p2 t2 e2 at.third_in.part-s3.ensures in
     let e3 = place (a ++ b) d p2 e2 in
-    let kept = at.padded.pad.kept.0 ∙ at.third-in.part3.kept.1.0 ∙ at.second-in.part2.kept.1.0 ∙ at.first-in.part.kept.1.0 in
-    let s = taken_padded (a ++ b ++ d) held3 at.third-in.part3.result p3 t3 e3 kept at.padded.pad.ensures at.absorbed.blocks2.ensures in
+    let kept = at.padded.pad.auto.held ∙ at.third_in.part-s3.auto.held ∙ at.second_in.part-s2.auto.held ∙ at.first_in.part-s1.auto.held in
+    let s = taken_padded (a ++ b ++ d) held3 at.third_in.part-s3.result p3 t3 e3 kept at.padded.pad.ensures at.absorbed.blocks-s.ensures in
     at.given.squeeze.ensures ∙ ap (λ (z : List (List ℕ)). take n (squeezed (n / 136 + 1) z)) s ∙
     ap (λ (m : List ℕ). shake256 m n) (append_assoc a b d)
 

@@ -4,18 +4,18 @@ use borrow.Author.Rules.{rules}
 use Rattle.shake_test.proofs.outputs.Statement.{statement}
 use Rattle.shake_test.proofs.outputs.Tie as tie
 
-abbrev invariant-loop : tie.invariant-loop
-invariant-loop fd m lengths right₀ k₀ right k = (k ≤ 11) × (right ≤ k)
+abbrev invariant-loop-k : tie.invariant-loop-k
+invariant-loop-k fd m lengths right₀ k₀ right k = (k ≤ 11) × (right ≤ k)
 
-abbrev decreases-loop : tie.decreases-loop
-decreases-loop fd m lengths right₀ k₀ right k = 11 - k
+abbrev decreases-loop-k : tie.decreases-loop-k
+decreases-loop-k fd m lengths right₀ k₀ right k = 11 - k
 
 pub outputs_spec : {M : Type 1} → statement M
 outputs_spec =
     tie.close
     (tie.spec
-    invariant-loop
-    decreases-loop
+    invariant-loop-k
+    decreases-loop-k
     (λ c. search rules)
     (λ c. search rules)
     (λ c. search rules)

@@ -4,18 +4,18 @@ use lib.Seq.{length-take-le}
 use borrow.Author.Rules.{rules}
 use Rattle.streams.proofs.expand_a.Statement.{statement}
 use Rattle.streams.proofs.expand_a.Tie as tie
-use Places.{after-stream, after-a-in-arg}
+use Places.{after-stream-1, after-a_in-arg-1}
 
-array_borrow_prefix_stream : tie.Need-array-borrow-prefix-stream
+array_borrow_prefix_stream : tie.Need-slice_bounds-stream-end
 array_borrow_prefix_stream c = search rules
 
-slice_aggregate_a_in : tie.Need-slice-aggregate-a-in
-slice_aggregate_a_in c = let at = after-stream c in sym (length-take-le _ _ at.start.pre.0.a_held)
+slice_aggregate_a_in : tie.Need-slice_bounds-a_in-end
+slice_aggregate_a_in c = let at = after-stream-1 c in sym (length-take-le _ _ at.start.requires.0.a_held)
 
-a_in_requires : tie.Need-a-in-requires
-a_in_requires c κs = let at = after-a-in-arg c in (at.start.pre.0.good, (length-take-le _ _ at.start.pre.0.a_held, at.start.pre.1))
+a_in_requires : tie.Need-a_in-requires
+a_in_requires c κs = let at = after-a_in-arg-1 c in (at.start.requires.0.good, (length-take-le _ _ at.start.requires.0.a_held, at.start.requires.1))
 
-same_length : tie.Need-same-length
+same_length : tie.Need-shape_of-out
 same_length c = search rules
 
 returns : tie.Need-returns

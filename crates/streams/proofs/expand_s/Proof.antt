@@ -4,26 +4,26 @@ use lib.Seq.{length-take-le}
 use borrow.Author.Rules.{rules}
 use Rattle.streams.proofs.expand_s.Statement.{statement}
 use Rattle.streams.proofs.expand_s.Tie as tie
-use Places.{after-stream, after-s, after-s-in-arg}
+use Places.{after-stream-1, after-s-1, after-s_in-arg-1}
 
-array_borrow_prefix_stream : tie.Need-array-borrow-prefix-stream
+array_borrow_prefix_stream : tie.Need-slice_bounds-stream-end
 array_borrow_prefix_stream c = search rules
 
-slice_aggregate_s_in : tie.Need-slice-aggregate-s-in
-slice_aggregate_s_in c = let at = after-stream c in sym (length-take-le _ _ at.start.pre.0.s_held)
+slice_aggregate_s_in : tie.Need-slice_bounds-s_in-end
+slice_aggregate_s_in c = let at = after-stream-1 c in sym (length-take-le _ _ at.start.requires.0.s_held)
 
-array_borrow_prefix_s : tie.Need-array-borrow-prefix-s
+array_borrow_prefix_s : tie.Need-slice_bounds-s-end
 array_borrow_prefix_s c = search rules
 
-slice_aggregate_s_in_2 : tie.Need-slice-aggregate-s-in-2
-slice_aggregate_s_in_2 c = let at = after-s c in sym (length-take-le _ _ at.start.pre.0.held)
+slice_aggregate_s_in_2 : tie.Need-slice_bounds-s_in-end-2
+slice_aggregate_s_in_2 c = let at = after-s-1 c in sym (length-take-le _ _ at.start.requires.0.held)
 
-s_in_requires : tie.Need-s-in-requires
+s_in_requires : tie.Need-s_in-requires
 s_in_requires c κs =
-    let at = after-s-in-arg c in
-    (at.start.pre.0.good, (length-take-le _ _ at.start.pre.0.s_held, length-take-le _ _ at.start.pre.0.held, at.start.pre.1))
+    let at = after-s_in-arg-1 c in
+    (at.start.requires.0.good, (length-take-le _ _ at.start.requires.0.s_held, length-take-le _ _ at.start.requires.0.held, at.start.requires.1))
 
-same_length : tie.Need-same-length
+same_length : tie.Need-shape_of-out
 same_length c = search rules
 
 returns : tie.Need-returns

@@ -8,25 +8,25 @@ use Rattle.tries.proofs.Stages.{stage_y, stage_w}
 use borrow.Author.Rules.{rules}
 use Rattle.tries.proofs.mask.Statement.{statement}
 use Rattle.tries.proofs.mask.Tie as tie
-use Places.{after-multiply-arg, done}
+use Places.{after-multiply-arg-1, done}
 
--- place masked = After-fill-y
+-- place masked = After-fill_y
 -- place multiplied = After-multiply
--- place done = After-slice-known3
+-- place done = After-slice_known-3-1
 
-fill_y_requires : tie.Need-fill-y-requires
+fill_y_requires : tie.Need-fill_y-requires
 fill_y_requires c κs = search rules
 
 multiply_requires : tie.Need-multiply-requires
 multiply_requires c κs =
-    let at = after-multiply-arg c in
+    let at = after-multiply-arg-1 c in
     let y = at.masked.fill_y.ensures in
-    let r = at.start.pre.0.1 in (
-      (at.start.pre.0.0, room_kept y.0 r.room),
-      (residues_kept y.0 place.A (λ e. omega arith) (r.each place.A (lit≤ tt)), residues_of _ at.start.pre.0.0.good y.1),
+    let r = at.start.requires.0.1 in (
+      (at.start.requires.0.0, room_kept y.0 r.room),
+      (residues_kept y.0 place.A (λ e. omega arith) (r.each place.A (lit≤ tt)), residues_of _ at.start.requires.0.0.good y.1),
     )
 
-same_length : tie.Need-same-length
+same_length : tie.Need-shape_of-work
 same_length c = search rules
 
 returns : tie.Need-returns

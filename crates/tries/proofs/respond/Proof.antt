@@ -8,31 +8,31 @@ use Rattle.tries.proofs.Stages.{stage_z}
 use borrow.Author.Rules.{rules}
 use Rattle.tries.proofs.respond.Statement.{statement}
 use Rattle.tries.proofs.respond.Tie as tie
-use Places.{after-multiply-arg, after-combine-arg, done}
+use Places.{after-multiply-arg-1, after-combine-arg-1, done}
 
 -- place multiplied = After-multiply
 -- place combined = After-combine
--- place done = After-slice-known3
+-- place done = After-slice_known-3-1
 
 multiply_requires : tie.Need-multiply-requires
 multiply_requires c κs =
-    let at = after-multiply-arg c in
-    let r = at.start.pre.1 in
-    ((at.start.pre.0, r.room), (r.each place.C (lit≤ tt), r.each place.S1 (lit≤ tt)))
+    let at = after-multiply-arg-1 c in
+    let r = at.start.requires.1 in
+    ((at.start.requires.0, r.room), (r.each place.C (lit≤ tt), r.each place.S1 (lit≤ tt)))
 
 combine_requires : tie.Need-combine-requires
 combine_requires c κs =
-    let at = after-combine-arg c in
-    let r = at.start.pre.1 in
+    let at = after-combine-arg-1 c in
+    let r = at.start.requires.1 in
     let m = at.multiplied.multiply.ensures in (
-      (at.start.pre.0, room_kept m.touched r.room),
+      (at.start.requires.0, room_kept m.touched r.room),
       (
         residues_kept m.touched place.Y (λ e. omega arith) (r.each place.Y (lit≤ tt)),
-        made_residues _ at.start.pre.0.good m (r.each place.C (lit≤ tt)) (r.each place.S1 (lit≤ tt)),
+        made_residues _ at.start.requires.0.good m (r.each place.C (lit≤ tt)) (r.each place.S1 (lit≤ tt)),
       ),
     )
 
-same_length : tie.Need-same-length
+same_length : tie.Need-shape_of-work
 same_length c = search rules
 
 returns : tie.Need-returns

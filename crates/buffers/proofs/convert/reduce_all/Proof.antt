@@ -8,56 +8,56 @@ use borrow.Author.Rules.{rules}
 use Rattle.buffers.proofs.convert.reduce_all.Statement.{statement}
 use Rattle.buffers.proofs.convert.reduce_all.Tie as tie
 
-abbrev invariant-loop : tie.invariant-loop
-invariant-loop q from to₀ i₀ to i = (0 < q) × Changed (pos 0) (residue q) from to₀ i to
+abbrev invariant-loop-i : tie.invariant-loop-i
+invariant-loop-i q from to₀ i₀ to i = (0 < q) × Changed (pos 0) (residue q) from to₀ i to
 
-abbrev decreases-loop : tie.decreases-loop
-decreases-loop q from to₀ i₀ to i = length from - i
+abbrev decreases-loop-i : tie.decreases-loop-i
+decreases-loop-i q from to₀ i₀ to i = length from - i
 
-loop-holds : tie.Need-loop-init invariant-loop decreases-loop
-loop-holds c = (c.before.requires.0, changed_none (pos 0) _ _ _ c.before.requires.1)
+loop-holds : tie.Need-loop-i-init invariant-loop-i decreases-loop-i
+loop-holds c = (c.requires.0, changed_none (pos 0) _ _ _ c.requires.1)
 
-mul_reduce : tie.Need-overflow-mul-reduce invariant-loop decreases-loop
+mul_reduce : tie.Need-offset_bounds-from-i invariant-loop-i decreases-loop-i
 mul_reduce c = search rules
 
-shared_slice_copy_out_reduce : tie.Need-shared-slice-copy-out-reduce invariant-loop decreases-loop
+shared_slice_copy_out_reduce : tie.Need-bounds-from-i invariant-loop-i decreases-loop-i
 shared_slice_copy_out_reduce c = search rules
 
-reduce_requires : tie.Need-reduce-requires invariant-loop decreases-loop
+reduce_requires : tie.Need-reduce-requires invariant-loop-i decreases-loop-i
 reduce_requires c κs = search rules
 
-mul_to : tie.Need-overflow-mul-to invariant-loop decreases-loop
+mul_to : tie.Need-offset_bounds-to-i invariant-loop-i decreases-loop-i
 mul_to c = search rules
 
-slice_write_to : tie.Need-slice-write-to invariant-loop decreases-loop
+slice_write_to : tie.Need-bounds-to-i invariant-loop-i decreases-loop-i
 slice_write_to c = search rules
 
-add_i : tie.Need-overflow-add-i invariant-loop decreases-loop
+add_i : tie.Need-overflow_add-i invariant-loop-i decreases-loop-i
 add_i c = search rules
 
-loop-less : tie.Need-loop-smaller invariant-loop decreases-loop
+loop-less : tie.Need-loop-i-smaller invariant-loop-i decreases-loop-i
 loop-less c = search rules
 
-loop-again : tie.Need-loop-preserved invariant-loop decreases-loop
+loop-again : tie.Need-loop-i-preserved invariant-loop-i decreases-loop-i
 loop-again c =
-    let l = c.before.before.before.loop in (
+    let l = c.loop-i in (
       l.invariant.0,
-      rw (c.reduce.ensures, to_z-of_z (record { sfits = c.before.reduce-arg.given }))
-          (changed_more (pos 0) _ _ _ l.i _ l.invariant.1 c.before.before.loop-test.true),
+      rw (c.reduce.ensures, to_z-of_z (record { sfits = c.reduce-arg-1.given }))
+          (changed_more (pos 0) _ _ _ l.i _ l.invariant.1 c.loop-i-test.true),
     )
 
-same_length : tie.Need-same-length invariant-loop decreases-loop
+same_length : tie.Need-shape_of-to invariant-loop-i decreases-loop-i
 same_length c = search rules
 
-returns : tie.Need-returns invariant-loop decreases-loop
-returns c = changed_all (pos 0) _ _ _ c.before.loop.i _ c.before.loop.invariant.1 c.loop-test.false
+returns : tie.Need-returns invariant-loop-i decreases-loop-i
+returns c = changed_all (pos 0) _ _ _ c.loop-i.i _ c.loop-i.invariant.1 c.loop-i-test.false
 
 pub reduce_all_spec : {M : Type 1} → statement M
 reduce_all_spec =
     tie.close
     (tie.spec
-    invariant-loop
-    decreases-loop
+    invariant-loop-i
+    decreases-loop-i
     loop-holds
     mul_reduce
     shared_slice_copy_out_reduce

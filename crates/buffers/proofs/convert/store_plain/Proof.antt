@@ -10,60 +10,60 @@ use borrow.Author.Rules.{rules}
 use Rattle.buffers.proofs.convert.store_plain.Statement.{statement}
 use Rattle.buffers.proofs.convert.store_plain.Tie as tie
 
-abbrev invariant-loop : tie.invariant-loop
-invariant-loop from to₀ i₀ to i = ((k : ℕ) → get_or from k 0 < 2 ^ 31) × Changed 0 pos from to₀ i to
+abbrev invariant-loop-i : tie.invariant-loop-i
+invariant-loop-i from to₀ i₀ to i = ((k : ℕ) → get_or from k 0 < 2 ^ 31) × Changed 0 pos from to₀ i to
 
-abbrev decreases-loop : tie.decreases-loop
-decreases-loop from to₀ i₀ to i = length from - i
+abbrev decreases-loop-i : tie.decreases-loop-i
+decreases-loop-i from to₀ i₀ to i = length from - i
 
-loop-holds : tie.Need-loop-init invariant-loop decreases-loop
-loop-holds c = (c.before.requires.0, changed_none 0 _ _ _ c.before.requires.1)
+loop-holds : tie.Need-loop-i-init invariant-loop-i decreases-loop-i
+loop-holds c = (c.requires.0, changed_none 0 _ _ _ c.requires.1)
 
-mul_difference : tie.Need-overflow-mul-difference invariant-loop decreases-loop
+mul_difference : tie.Need-offset_bounds-from-i invariant-loop-i decreases-loop-i
 mul_difference c = search rules
 
-shared_slice_read_difference : tie.Need-shared-slice-read-difference invariant-loop decreases-loop
+shared_slice_read_difference : tie.Need-bounds-from-i invariant-loop-i decreases-loop-i
 shared_slice_read_difference c = search rules
 
-difference_requires : tie.Need-difference-requires invariant-loop decreases-loop
-difference_requires c κs = (c.before.before.loop.invariant.0 c.before.before.loop.i, omega arith)
+difference_requires : tie.Need-difference-requires invariant-loop-i decreases-loop-i
+difference_requires c κs = (c.loop-i.invariant.0 c.loop-i.i, omega arith)
 
-mul_t9 : tie.Need-overflow-mul-t9 invariant-loop decreases-loop
+mul_t9 : tie.Need-offset_bounds-to-i invariant-loop-i decreases-loop-i
 mul_t9 c = search rules
 
-slice_set_from_to : tie.Need-slice-set-from-to invariant-loop decreases-loop
+slice_set_from_to : tie.Need-bounds-to-i invariant-loop-i decreases-loop-i
 slice_set_from_to c = search rules
 
-add_i : tie.Need-overflow-add-i invariant-loop decreases-loop
+add_i : tie.Need-overflow_add-i invariant-loop-i decreases-loop-i
 add_i c = search rules
 
-loop-less : tie.Need-loop-smaller invariant-loop decreases-loop
+loop-less : tie.Need-loop-i-smaller invariant-loop-i decreases-loop-i
 loop-less c = search rules
 
-loop-again : tie.Need-loop-preserved invariant-loop decreases-loop
+loop-again : tie.Need-loop-i-preserved invariant-loop-i decreases-loop-i
 loop-again c =
-    let l = c.before.before.before.loop in (
+    let l = c.loop-i in (
       l.invariant.0,
       rw (
-        to_z-of_z (record { sfits = c.difference.type-inv }),
+        to_z-of_z (record { sfits = c.difference.type_inv }),
         c.difference.ensures ∙
-            sub-zero (get_or c.before.before.before.before.before.args.from.now l.i 0),
+            sub-zero (get_or c.args.from.now l.i 0),
       )
-          (changed_more 0 pos _ _ l.i _ l.invariant.1 c.before.before.loop-test.true),
+          (changed_more 0 pos _ _ l.i _ l.invariant.1 c.loop-i-test.true),
     )
 
-same_length : tie.Need-same-length invariant-loop decreases-loop
+same_length : tie.Need-shape_of-to invariant-loop-i decreases-loop-i
 same_length c = search rules
 
-returns : tie.Need-returns invariant-loop decreases-loop
-returns c = changed_all 0 pos _ _ c.before.loop.i _ c.before.loop.invariant.1 c.loop-test.false
+returns : tie.Need-returns invariant-loop-i decreases-loop-i
+returns c = changed_all 0 pos _ _ c.loop-i.i _ c.loop-i.invariant.1 c.loop-i-test.false
 
 pub store_plain_spec : {M : Type 1} → statement M
 store_plain_spec =
     tie.close
     (tie.spec
-    invariant-loop
-    decreases-loop
+    invariant-loop-i
+    decreases-loop-i
     loop-holds
     mul_difference
     shared_slice_read_difference

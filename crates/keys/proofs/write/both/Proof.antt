@@ -5,36 +5,36 @@ use Rattle.keys.proofs.write.both.Statement.{statement}
 use Rattle.keys.proofs.write.both.Tie as tie
 use Places.{done}
 
--- place public-written = After-public
+-- place public_written = After-public
 -- place hashed = After-shake256
--- place secret-written = After-secret
--- place done = After-slice-known4
+-- place secret_written = After-secret
+-- place done = After-slice_known-4-1
 
 public_requires : tie.Need-public-requires
 public_requires c κs = search rules
 
-slice_aggregate_shake256 : tie.Need-slice-aggregate-shake256
+slice_aggregate_shake256 : tie.Need-slice_bounds-shake256-end-3
 slice_aggregate_shake256 c = search rules
 
-slice_aggregate_shake256_2 : tie.Need-slice-aggregate-shake256-2
+slice_aggregate_shake256_2 : tie.Need-slice_aggregate-shake256-2
 slice_aggregate_shake256_2 c = search rules
 
-slice_aggregate_shake256_3 : tie.Need-slice-aggregate-shake256-3
+slice_aggregate_shake256_3 : tie.Need-slice_aggregate-shake256-3
 slice_aggregate_shake256_3 c = search rules
 
 shake256_requires : tie.Need-shake256-requires
 shake256_requires c κs = search rules
 
-slice_aggregate_secret : tie.Need-slice-aggregate-secret
+slice_aggregate_secret : tie.Need-slice_bounds-secret-end
 slice_aggregate_secret c = search rules
 
 secret_requires : tie.Need-secret-requires
 secret_requires c κs = search rules
 
-same_length : tie.Need-same-length
+same_length : tie.Need-shape_of-public_key
 same_length c = search rules
 
-same_length_2 : tie.Need-same-length-2
+same_length_2 : tie.Need-shape_of-secret_key
 same_length_2 c = search rules
 
 returns : tie.Need-returns

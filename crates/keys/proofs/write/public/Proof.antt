@@ -8,11 +8,11 @@ use Rattle.keys.proofs.Written.{public_written}
 use borrow.Author.Rules.{rules}
 use Rattle.keys.proofs.write.public.Statement.{statement}
 use Rattle.keys.proofs.write.public.Tie as tie
-use Places.{after-put-arg2, done}
+use Places.{after-put-arg-2-1, done}
 
--- place zeta-put = After-put
--- place t1-put = After-put2
--- place done = After-slice-known3
+-- place zeta_put = After-put
+-- place t1_put = After-put-2
+-- place done = After-slice_known-3-1
 
 put_requires : tie.Need-put-requires
 put_requires c κs = search rules
@@ -22,17 +22,17 @@ of_requires c κs = search rules
 
 put_requires_2 : tie.Need-put-requires-2
 put_requires_2 c κs =
-    let at = after-put-arg2 c in
-    asks_put at.start.args.p at.start.pre.0.0 _ (t1_readable at.start.args.p at.start.pre.0.0.good) place.T1 at.start.args.work.now at.start.pre.0.1 at.start.pre.1.1
-    part.T1 refl _ (at.zeta-put.put.kept.1.1.0 ∙ at.start.pre.1.0.1) _ at.after-of.of.ensures
+    let at = after-put-arg-2-1 c in
+    asks_put at.start.args.p at.start.requires.0.0 _ (t1_readable at.start.args.p at.start.requires.0.0.good) place.T1 at.start.args.work.now at.start.requires.0.1 at.start.requires.1.1
+    part.T1 refl _ (at.zeta_put.put.auto.whole ∙ at.start.requires.1.0.1) _ at.after-of.of.ensures
 
-same_length : tie.Need-same-length
+same_length : tie.Need-shape_of-out
 same_length c = search rules
 
 returns : tie.Need-returns
 returns c =
     let at = done c in
-    public_written at.start.args.p _ at.start.pre.1.0.0 _ at.after-of.of.ensures _ _ _ at.start.pre.1.0.1 at.zeta-put.put.ensures at.t1-put.put2.ensures
+    public_written at.start.args.p _ at.start.requires.1.0.0 _ at.after-of.of.ensures _ _ _ at.start.requires.1.0.1 at.zeta_put.put.ensures at.t1_put.put-2.ensures
 
 pub public_spec : {M : Type 1} → statement M
 public_spec = tie.close (tie.spec put_requires of_requires put_requires_2 same_length returns)

@@ -4,23 +4,23 @@ use borrow.Author.Rules.{rules}
 use Rattle.layouts.proofs.pack.written.Statement.{statement}
 use Rattle.layouts.proofs.pack.written.Tie as tie
 
-cast_result : tie.Need-overflow-cast-result
+cast_result : tie.Need-overflow_cast-result
 cast_result c = search rules
 
-cast_result_2 : tie.Need-overflow-cast-result-2
-cast_result_2 c = wide c.before.before.ranges.value
+cast_result_2 : tie.Need-overflow_cast-result-then-l
+cast_result_2 c = wide c.ranges.value
 
-sub_result : tie.Need-overflow-sub-result
-sub_result c = difference_fits c.before.before.ranges.value _ c.struct_known.given.1.1.0
+sub_result : tie.Need-overflow_sub-result
+sub_result c = difference_fits c.ranges.value _ c.struct_known-1.given.1.1.0
 
-cast_result_3 : tie.Need-overflow-cast-result-3
-cast_result_3 c = wide c.before.ranges.value
+cast_result_3 : tie.Need-overflow_cast-result-else-l
+cast_result_3 c = wide c.ranges.value
 
-returns : tie.Need-returns
-returns c = difference_back c.before.before.ranges.value _ c.struct_known.given.1.1.0 ∙ written_down c.before.before.args.l c.before.before.args.value c.before.if1.true
+returns : tie.Need-returns-then-l
+returns c = difference_back c.ranges.value _ c.struct_known-1.given.1.1.0 ∙ written_down c.args.l c.args.value c.if-l.true
 
-returns-2 : tie.Need-returns-2
-returns-2 c = as_it_is c.before.ranges.value ∙ written_plain c.before.args.l c.before.args.value c.if1.false
+returns-2 : tie.Need-returns-else-l
+returns-2 c = as_it_is c.ranges.value ∙ written_plain c.args.l c.args.value c.if-l.false
 
 pub written_spec : {M : Type 1} → statement M
 written_spec =

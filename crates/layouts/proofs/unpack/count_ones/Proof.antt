@@ -6,42 +6,42 @@ use borrow.Author.Rules.{rules}
 use Rattle.layouts.proofs.unpack.count_ones.Statement.{statement}
 use Rattle.layouts.proofs.unpack.count_ones.Tie as tie
 
-abbrev invariant-loop : tie.invariant-loop
-invariant-loop bits count₀ i₀ count i = Counted bits i count
+abbrev invariant-loop-i : tie.invariant-loop-i
+invariant-loop-i bits count₀ i₀ count i = Counted bits i count
 
-abbrev decreases-loop : tie.decreases-loop
-decreases-loop bits count₀ i₀ count i = length bits - i
+abbrev decreases-loop-i : tie.decreases-loop-i
+decreases-loop-i bits count₀ i₀ count i = length bits - i
 
-loop-holds : tie.Need-loop-init invariant-loop decreases-loop
-loop-holds c = counted_none _ c.before.requires
+loop-holds : tie.Need-loop-i-init invariant-loop-i decreases-loop-i
+loop-holds c = counted_none _ c.requires
 
-mul_counted : tie.Need-overflow-mul-counted invariant-loop decreases-loop
+mul_counted : tie.Need-offset_bounds-bits-i invariant-loop-i decreases-loop-i
 mul_counted c = search rules
 
-shared_slice_read_counted : tie.Need-shared-slice-read-counted invariant-loop decreases-loop
+shared_slice_read_counted : tie.Need-bounds-bits-i invariant-loop-i decreases-loop-i
 shared_slice_read_counted c = search rules
 
-counted_requires : tie.Need-counted-requires invariant-loop decreases-loop
-counted_requires c κs = (omega (arith, c.before.before.loop.invariant.few, c.before.before.loop.invariant.within, c.before.before.loop.invariant.room), c.before.before.loop.invariant.bit c.before.before.loop.i)
+counted_requires : tie.Need-counted-count-requires invariant-loop-i decreases-loop-i
+counted_requires c κs = (omega (arith, c.loop-i.invariant.few, c.loop-i.invariant.within, c.loop-i.invariant.room), c.loop-i.invariant.bit c.loop-i.i)
 
-add_i : tie.Need-overflow-add-i invariant-loop decreases-loop
+add_i : tie.Need-overflow_add-i invariant-loop-i decreases-loop-i
 add_i c = search rules
 
-loop-less : tie.Need-loop-smaller invariant-loop decreases-loop
+loop-less : tie.Need-loop-i-smaller invariant-loop-i decreases-loop-i
 loop-less c = search rules
 
-loop-again : tie.Need-loop-preserved invariant-loop decreases-loop
-loop-again c = rw c.counted.ensures (counted_more _ _ _ c.before.before.before.loop.invariant c.before.before.loop-test.true)
+loop-again : tie.Need-loop-i-preserved invariant-loop-i decreases-loop-i
+loop-again c = rw c.counted-count.ensures (counted_more _ _ _ c.loop-i.invariant c.loop-i-test.true)
 
-returns : tie.Need-returns invariant-loop decreases-loop
-returns c = counted_all _ _ _ c.before.loop.invariant c.loop-test.false
+returns : tie.Need-returns invariant-loop-i decreases-loop-i
+returns c = counted_all _ _ _ c.loop-i.invariant c.loop-i-test.false
 
 pub count_ones_spec : {M : Type 1} → statement M
 count_ones_spec =
     tie.close
     (tie.spec
-    invariant-loop
-    decreases-loop
+    invariant-loop-i
+    decreases-loop-i
     loop-holds
     mul_counted
     shared_slice_read_counted

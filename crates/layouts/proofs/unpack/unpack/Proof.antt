@@ -8,64 +8,64 @@ use Rattle.layouts.proofs.Scans.{walked_none, walked_more, walked_stop, walked_a
 use borrow.Author.Rules.{rules}
 use Rattle.layouts.proofs.unpack.unpack.Statement.{statement}
 use Rattle.layouts.proofs.unpack.unpack.Tie as tie
-use Invariants.{InvLoop, μ_loop}
-use Places.{after-slice-known, after-loop, after-known-told, after-enum-told}
+use Invariants.{invariant-loop-i, decreases-loop-i}
+use Places.{after-slice_known-1, after-loop-i, in-Good, in_default}
 
-loop-holds : tie.Need-loop-init InvLoop μ_loop
-loop-holds c = let at = after-slice-known c in (at.start.pre.0, at.start.pre.1.1, walked_none 0 _ _ _ _ (sym (length_codes _ _ _)))
+loop-holds : tie.Need-loop-i-init invariant-loop-i decreases-loop-i
+loop-holds c = let at = after-slice_known-1 c in (at.start.requires.0, at.start.requires.1.1, walked_none 0 _ _ _ _ (sym (length_codes _ _ _)))
 
-code_at_requires : tie.Need-code-at-requires InvLoop μ_loop
+code_at_requires : tie.Need-code_at-requires invariant-loop-i decreases-loop-i
 code_at_requires c κs = search rules
 
-value_of_requires : tie.Need-value-of-requires InvLoop μ_loop
+value_of_requires : tie.Need-value_of-requires invariant-loop-i decreases-loop-i
 value_of_requires c κs = search rules
 
-enum_known_x : tie.Need-enum-known-x InvLoop μ_loop
+enum_known_x : tie.Need-enum_known-x invariant-loop-i decreases-loop-i
 enum_known_x c = search rules
 
-enum_told : tie.Need-enum-told InvLoop μ_loop
+enum_told : tie.Need-enum_told-1 invariant-loop-i decreases-loop-i
 enum_told c = search rules
 
-same_length : tie.Need-same-length InvLoop μ_loop
+same_length : tie.Need-shape_of-out-in_default invariant-loop-i decreases-loop-i
 same_length c = search rules
 
-returns : tie.Need-returns InvLoop μ_loop
+returns : tie.Need-returns-in_default invariant-loop-i decreases-loop-i
 returns c =
-    walked_stop 0 _ _ _ _ _ _ (after-enum-told c).at-loop.loop.inv.2 (omega arith) _ _ (after-enum-told c).after-value-of.value_of_lem.ensures
-    c.enum_told.given.1 ((after-enum-told c).after-code-at.code_at.ensures ∙ sym (codes_at _ _ _ _ (omega arith)))
+    walked_stop 0 _ _ _ _ _ _ (in_default c).at-loop-i.loop-i.inv.2 (omega arith) _ _ (in_default c).after-value_of.value_of_lem.ensures
+    c.enum_told-1.given.1 ((in_default c).after-code_at.code_at.ensures ∙ sym (codes_at _ _ _ _ (omega arith)))
 
-mul_out : tie.Need-overflow-mul-out InvLoop μ_loop
+mul_out : tie.Need-offset_bounds-out-i invariant-loop-i decreases-loop-i
 mul_out c = search rules
 
-slice_write_out : tie.Need-slice-write-out InvLoop μ_loop
+slice_write_out : tie.Need-bounds-out-i invariant-loop-i decreases-loop-i
 slice_write_out c = search rules
 
-add_i : tie.Need-overflow-add-i InvLoop μ_loop
+add_i : tie.Need-overflow_add-i invariant-loop-i decreases-loop-i
 add_i c = search rules
 
-loop-less : tie.Need-loop-smaller InvLoop μ_loop
+loop-less : tie.Need-loop-i-smaller invariant-loop-i decreases-loop-i
 loop-less c = search rules
 
-loop-again : tie.Need-loop-preserved InvLoop μ_loop
+loop-again : tie.Need-loop-i-preserved invariant-loop-i decreases-loop-i
 loop-again c = (
-  (after-known-told c).at-loop.loop.inv.0,
-  (after-known-told c).at-loop.loop.inv.1,
-  walked_more 0 _ _ _ _ _ _ (after-known-told c).at-loop.loop.inv.2 (omega arith) _ _ _ (after-known-told c).after-value-of.value_of_lem.ensures
-      (after-known-told c).after-x.x.given.1 ((after-known-told c).after-code-at.code_at.ensures ∙ sym (codes_at _ _ _ _ (omega arith))),
+  (in-Good c).at-loop-i.loop-i.inv.0,
+  (in-Good c).at-loop-i.loop-i.inv.1,
+  walked_more 0 _ _ _ _ _ _ (in-Good c).at-loop-i.loop-i.inv.2 (omega arith) _ _ _ (in-Good c).after-value_of.value_of_lem.ensures
+      (in-Good c).in-Good-2.x-1.given.1 ((in-Good c).after-code_at.code_at.ensures ∙ sym (codes_at _ _ _ _ (omega arith))),
 )
 
-same_length_2 : tie.Need-same-length-2 InvLoop μ_loop
+same_length_2 : tie.Need-shape_of-out invariant-loop-i decreases-loop-i
 same_length_2 c = search rules
 
-returns-2 : tie.Need-returns-2 InvLoop μ_loop
-returns-2 c = walked_all 0 _ _ _ _ _ _ (after-loop c).at-loop.loop.inv.2 (omega arith)
+returns-2 : tie.Need-returns invariant-loop-i decreases-loop-i
+returns-2 c = walked_all 0 _ _ _ _ _ _ (after-loop-i c).at-loop-i.loop-i.inv.2 (omega arith)
 
 pub unpack_spec : {M : Type 1} → statement M
 unpack_spec =
     tie.close
     (tie.spec
-    InvLoop
-    μ_loop
+    invariant-loop-i
+    decreases-loop-i
     loop-holds
     code_at_requires
     value_of_requires

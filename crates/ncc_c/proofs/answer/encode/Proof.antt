@@ -4,31 +4,31 @@ use borrow.Author.Rules.{rules}
 use Rattle.ncc_c.proofs.answer.encode.Statement.{statement}
 use Rattle.ncc_c.proofs.answer.encode.Tie as tie
 
-cast_result : tie.Need-overflow-cast-result
+cast_result : tie.Need-overflow_cast-result
 cast_result c = search rules
 
-cast_result_2 : tie.Need-overflow-cast-result-2
+cast_result_2 : tie.Need-overflow_cast-result-2
 cast_result_2 c = search rules
 
-mul_result : tie.Need-overflow-mul-result
+mul_result : tie.Need-overflow_mul-result
 mul_result c = search rules
 
-add_result : tie.Need-overflow-add-result
+add_result : tie.Need-overflow_add-result
 add_result c = search rules
 
-mul_result_2 : tie.Need-overflow-mul-result-2
+mul_result_2 : tie.Need-overflow_mul-result-2
 mul_result_2 c = search rules
 
-add_result_2 : tie.Need-overflow-add-result-2
+add_result_2 : tie.Need-overflow_add-result-2
 add_result_2 c = search rules
 
-cast_result_3 : tie.Need-overflow-cast-result-3
+cast_result_3 : tie.Need-overflow_cast-result-3
 cast_result_3 c = search rules
 
-mul_result_3 : tie.Need-overflow-mul-result-3
+mul_result_3 : tie.Need-overflow_mul-result-3
 mul_result_3 c = search rules
 
-add_result_3 : tie.Need-overflow-add-result-3
+add_result_3 : tie.Need-overflow_add-result-3
 add_result_3 c = search rules
 
 returns : tie.Need-returns

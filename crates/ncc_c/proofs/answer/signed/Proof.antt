@@ -9,10 +9,10 @@ report_requires : tie.Need-report-requires
 report_requires c κs = search rules
 
 encode_requires : tie.Need-encode-requires
-encode_requires c κs = signing_fits c.before.args.s c.report.ensures c.before.requires
+encode_requires c κs = signing_fits c.args.s c.report.ensures c.requires
 
 returns : tie.Need-returns
-returns c = c.encode.ensures ∙ ap encoded c.before.report.ensures
+returns c = c.encode.ensures ∙ ap encoded c.report.ensures
 
 pub signed_spec : {M : Type 1} → statement M
 signed_spec = tie.close (tie.spec report_requires encode_requires returns)

@@ -4,17 +4,17 @@ use borrow.Author.Rules.{rules}
 use Rattle.ncc_c.proofs.pack.ncc_pack_z.Statement.{statement}
 use Rattle.ncc_c.proofs.pack.ncc_pack_z.Tie as tie
 
-pack_z_requires : tie.Need-pack-z-requires
+pack_z_requires : tie.Need-pack_z-requires
 pack_z_requires c κs = search rules
 
 answer_requires : tie.Need-answer-requires
-answer_requires c κs = pack_index Z c.before.before.before.before.before.args.values.now c.before.before.before.before.before.args.out.now c.before.before.pack_z.result c.before.before.pack_z.ensures.answers
+answer_requires c κs = pack_index Z c.args.values.now c.args.out.now c.pack_z.result c.pack_z.ensures.answers
 
-same_length : tie.Need-same-length
+same_length : tie.Need-shape_of-out
 same_length c = search rules
 
 returns : tie.Need-returns
-returns c = to_number c.before.before.before.pack_z.ensures c.answer.ensures
+returns c = to_number c.pack_z.ensures c.answer.ensures
 
 pub ncc_pack_z_spec : {M : Type 1} → statement M
 ncc_pack_z_spec = tie.close (tie.spec pack_z_requires answer_requires same_length returns)

@@ -4,17 +4,17 @@ use borrow.Author.Rules.{rules}
 use Rattle.ncc_c.proofs.pack.ncc_unpack_s.Statement.{statement}
 use Rattle.ncc_c.proofs.pack.ncc_unpack_s.Tie as tie
 
-unpack_s_requires : tie.Need-unpack-s-requires
+unpack_s_requires : tie.Need-unpack_s-requires
 unpack_s_requires c κs = search rules
 
 answer_requires : tie.Need-answer-requires
-answer_requires c κs = unpack_index S c.before.before.before.before.args.packed.now c.before.before.before.before.args.out.now c.before.unpack_s.result c.before.unpack_s.ensures.answers
+answer_requires c κs = unpack_index S c.args.packed.now c.args.out.now c.unpack_s.result c.unpack_s.ensures.answers
 
-same_length : tie.Need-same-length
+same_length : tie.Need-shape_of-out
 same_length c = search rules
 
 returns : tie.Need-returns
-returns c = to_number c.before.before.unpack_s.ensures c.answer.ensures
+returns c = to_number c.unpack_s.ensures c.answer.ensures
 
 pub ncc_unpack_s_spec : {M : Type 1} → statement M
 ncc_unpack_s_spec = tie.close (tie.spec unpack_s_requires answer_requires same_length returns)

@@ -9,13 +9,13 @@ product_requires : tie.Need-product-requires
 product_requires c κs = search rules
 
 answer_requires : tie.Need-answer-requires
-answer_requires c κs = answer_index c.before.product.result (of_product_call set1 c.before.before.before.args.first.now c.before.before.before.args.second.now c.before.before.before.args.out.now) c.before.product.ensures.answers
+answer_requires c κs = answer_index c.product.result (of_product_call set1 c.args.first.now c.args.second.now c.args.out.now) c.product.ensures.answers
 
-same_length : tie.Need-same-length
+same_length : tie.Need-shape_of-out
 same_length c = search rules
 
 returns : tie.Need-returns
-returns c = to_number c.before.before.product.ensures c.answer.ensures
+returns c = to_number c.product.ensures c.answer.ensures
 
 pub ncc_product_spec : {M : Type 1} → statement M
 ncc_product_spec = tie.close (tie.spec product_requires answer_requires same_length returns)

@@ -9,11 +9,11 @@ use borrow.Author.Rules.{rules}
 use Rattle.ncc_c.proofs.round.ncc_power2_high.Statement.{statement}
 use Rattle.ncc_c.proofs.round.ncc_power2_high.Tie as tie
 
-power2round_requires : tie.Need-power2round-requires
+power2round_requires : tie.Need-power2round-s-requires
 power2round_requires c κs = search rules
 
 returns : tie.Need-returns
-returns c = ap (λ (s : Split). s.high) c.power2round.ensures ∙ ap (λ (z : ℤ). (power2_round set1 z).high) (back w32 c.before.ranges.r)
+returns c = ap (λ (s : Split). s.high) c.power2round-s.ensures ∙ ap (λ (z : ℤ). (power2_round set1 z).high) (back w32 c.ranges.r)
 
 pub ncc_power2_high_spec : {M : Type 1} → statement M
 ncc_power2_high_spec = tie.close (tie.spec power2round_requires returns)

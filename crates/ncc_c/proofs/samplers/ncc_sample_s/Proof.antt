@@ -6,17 +6,17 @@ use borrow.Author.Rules.{rules}
 use Rattle.ncc_c.proofs.samplers.ncc_sample_s.Statement.{statement}
 use Rattle.ncc_c.proofs.samplers.ncc_sample_s.Tie as tie
 
-sample_s_requires : tie.Need-sample-s-requires
+sample_s_requires : tie.Need-sample_s-requires
 sample_s_requires c κs = search rules
 
 answer_requires : tie.Need-answer-requires
-answer_requires c κs = answer_index c.before.sample_s.result (of_sample_call set1 sample_s c.before.before.before.before.args.stream.now c.before.before.before.before.args.out.now) c.before.sample_s.ensures.answers
+answer_requires c κs = answer_index c.sample_s.result (of_sample_call set1 sample_s c.args.stream.now c.args.out.now) c.sample_s.ensures.answers
 
-same_length : tie.Need-same-length
+same_length : tie.Need-shape_of-out
 same_length c = search rules
 
 returns : tie.Need-returns
-returns c = to_number c.before.before.sample_s.ensures c.answer.ensures
+returns c = to_number c.sample_s.ensures c.answer.ensures
 
 pub ncc_sample_s_spec : {M : Type 1} → statement M
 ncc_sample_s_spec = tie.close (tie.spec sample_s_requires answer_requires same_length returns)

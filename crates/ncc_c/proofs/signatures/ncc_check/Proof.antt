@@ -15,11 +15,11 @@ check_requires c κs = search rules
 
 -- src/signatures.rt:35:5
 answer_requires : tie.Need-answer-requires
-answer_requires c κs = answer_index c.check.result (of_checking set1 (omega arith) shake256 c.before.before.before.before.args.public.now c.before.before.before.before.args.signature.now c.before.before.before.before.args.message.now) c.check.ensures
+answer_requires c κs = answer_index c.check.result (of_checking set1 (omega arith) shake256 c.args.public.now c.args.signature.now c.args.message.now) c.check.ensures
 
 -- src/signatures.rt:31:1
 returns : tie.Need-returns
-returns c = c.answer.ensures ∙ ap encoded c.before.check.ensures
+returns c = c.answer.ensures ∙ ap encoded c.check.ensures
 
 pub ncc_check_spec : {M : Type 1} → statement M
 ncc_check_spec = tie.close (tie.spec check_requires answer_requires returns)

@@ -8,51 +8,51 @@ use Rattle.packing.proofs.Standing.{total_next}
 use Rattle.packing.proofs.parts.sum.Statement.{statement}
 use Rattle.packing.proofs.parts.sum.Tie as tie
 
-abbrev invariant-loop : tie.invariant-loop
-invariant-loop lengths i at₀ k₀ at k = (k ≤ i) × (at ≤ k * 10240) × (at ≡ total (take k lengths))
+abbrev invariant-loop-k : tie.invariant-loop-k
+invariant-loop-k lengths i at₀ k₀ at k = (k ≤ i) × (at ≤ k * 10240) × (at ≡ total (take k lengths))
 
-abbrev decreases-loop : tie.decreases-loop
-decreases-loop lengths i at₀ k₀ at k = i - k
+abbrev decreases-loop-k : tie.decreases-loop-k
+decreases-loop-k lengths i at₀ k₀ at k = i - k
 
-loop-holds : tie.Need-loop-init invariant-loop decreases-loop
+loop-holds : tie.Need-loop-k-init invariant-loop-k decreases-loop-k
 unfolding total
 loop-holds c = (omega arith, omega arith, refl)
 
-mul_at : tie.Need-overflow-mul-at invariant-loop decreases-loop
+mul_at : tie.Need-offset_bounds-lengths-k invariant-loop-k decreases-loop-k
 mul_at c = omega arith
 
-shared_slice_read_at : tie.Need-shared-slice-read-at invariant-loop decreases-loop
+shared_slice_read_at : tie.Need-bounds-lengths-k invariant-loop-k decreases-loop-k
 shared_slice_read_at c = omega arith
 
-add_at : tie.Need-overflow-add-at invariant-loop decreases-loop
-add_at c = omega (arith, c.before.before.before.requires.2 c.before.before.loop.k)
+add_at : tie.Need-overflow_add-at invariant-loop-k decreases-loop-k
+add_at c = omega (arith, c.requires.2 c.loop-k.k)
 
-add_k : tie.Need-overflow-add-k invariant-loop decreases-loop
+add_k : tie.Need-overflow_add-k invariant-loop-k decreases-loop-k
 add_k c = omega arith
 
-loop-less : tie.Need-loop-smaller invariant-loop decreases-loop
+loop-less : tie.Need-loop-k-smaller invariant-loop-k decreases-loop-k
 loop-less c = omega arith
 
-loop-again : tie.Need-loop-preserved invariant-loop decreases-loop
+loop-again : tie.Need-loop-k-preserved invariant-loop-k decreases-loop-k
 loop-again c = (
   omega arith,
-  omega (arith, c.before.before.before.requires.2 c.before.before.loop.k),
-  ap (λ (n : ℕ). n + get_or c.before.before.before.args.lengths.now c.before.before.loop.k 0) c.before.before.loop.invariant.2 ∙
-      sym (total_next c.before.before.before.args.lengths.now c.before.before.loop.k (omega arith)) ∙
-      ap (λ (n : ℕ). total (take n c.before.before.before.args.lengths.now)) (sym (add-one c.before.before.loop.k)),
+  omega (arith, c.requires.2 c.loop-k.k),
+  ap (λ (n : ℕ). n + get_or c.args.lengths.now c.loop-k.k 0) c.loop-k.invariant.2 ∙
+      sym (total_next c.args.lengths.now c.loop-k.k (omega arith)) ∙
+      ap (λ (n : ℕ). total (take n c.args.lengths.now)) (sym (add-one c.loop-k.k)),
 )
 
-returns : tie.Need-returns invariant-loop decreases-loop
+returns : tie.Need-returns invariant-loop-k decreases-loop-k
 returns c =
-    c.before.loop.invariant.2 ∙
-    ap (λ (n : ℕ). total (take n c.before.before.args.lengths.now)) {x = c.before.loop.k} {y = c.before.before.args.i} (omega arith)
+    c.loop-k.invariant.2 ∙
+    ap (λ (n : ℕ). total (take n c.args.lengths.now)) {x = c.loop-k.k} {y = c.args.i} (omega arith)
 
 pub sum_spec : {M : Type 1} → statement M
 sum_spec =
     tie.close
     (tie.spec
-    invariant-loop
-    decreases-loop
+    invariant-loop-k
+    decreases-loop-k
     loop-holds
     mul_at
     shared_slice_read_at

@@ -4,13 +4,13 @@ use borrow.Author.Rules.{rules}
 use Rattle.residues.proofs.divide.quotient.Statement.{statement}
 use Rattle.residues.proofs.divide.quotient.Tie as tie
 
-div_result : tie.Need-nonzero-div-result
+div_result : tie.Need-nonzero_div-result
 div_result c = search rules
 
-returns : tie.Need-returns
-returns c = ap (λ (m : ℕ). c.before.args.x / m) (sym c.if1.true)
+returns : tie.Need-returns-then-step-eq-ALPHA
+returns c = ap (λ (m : ℕ). c.args.x / m) (sym c.if-step-eq-ALPHA.true)
 
-returns-2 : tie.Need-returns-2
+returns-2 : tie.Need-returns-else-step-eq-ALPHA
 returns-2 c = search rules
 
 pub quotient_spec : {M : Type 1} → statement M

@@ -1,48 +1,48 @@
 -- Made by `places`, from the places of the code: do not edit. A view is what was seen on the way to a place.
 use Rattle.ring.proofs.add_rows.Tie as tie
-use Rattle.ring.proofs.add_rows.Proof.Invariants.{InvLoop, μ_loop}
+use Rattle.ring.proofs.add_rows.Proof.Invariants.{invariant-loop-k, decreases-loop-k}
 
 abbrev pub Start : Type 0
-Start = tie.Start InvLoop μ_loop
+Start = tie.Start invariant-loop-k decreases-loop-k
 
 abbrev pub Begins : Type 0
-Begins = tie.After-shared-slice-known InvLoop μ_loop
+Begins = tie.After-shared_slice_known-1 invariant-loop-k decreases-loop-k
 
 abbrev pub Head : Type 0
-Head = tie.At-loop InvLoop μ_loop
+Head = tie.At-loop-k invariant-loop-k decreases-loop-k
 
 abbrev pub Turn : Type 0
-Turn = tie.In-loop InvLoop μ_loop
+Turn = tie.In-loop-k invariant-loop-k decreases-loop-k
 
 abbrev pub Ended : Type 0
-Ended = tie.After-loop InvLoop μ_loop
+Ended = tie.After-loop-k invariant-loop-k decreases-loop-k
 
 abbrev pub Placed : Type 0
-Placed = tie.After-slice-known2 InvLoop μ_loop
+Placed = tie.After-slice_known-in-loop-k-1 invariant-loop-k decreases-loop-k
 
-abbrev pub To-first : Type 0
-To-first = tie.After-shared-slice-known2 InvLoop μ_loop
+abbrev pub ToFirst : Type 0
+ToFirst = tie.After-shared_slice_known-in-loop-k-1 invariant-loop-k decreases-loop-k
 
 abbrev pub First : Type 0
-First = tie.After-times InvLoop μ_loop
+First = tie.After-times invariant-loop-k decreases-loop-k
 
-abbrev pub To-second : Type 0
-To-second = tie.After-shared-slice-known3 InvLoop μ_loop
+abbrev pub ToSecond : Type 0
+ToSecond = tie.After-shared_slice_known-in-loop-k-2-1 invariant-loop-k decreases-loop-k
 
 abbrev pub Second : Type 0
-Second = tie.After-times2 InvLoop μ_loop
+Second = tie.After-times-in-loop-k invariant-loop-k decreases-loop-k
 
-abbrev pub To-third : Type 0
-To-third = tie.After-shared-slice-known4 InvLoop μ_loop
+abbrev pub ToThird : Type 0
+ToThird = tie.After-shared_slice_known-in-loop-k-3-1 invariant-loop-k decreases-loop-k
 
 abbrev pub Third : Type 0
-Third = tie.After-times3 InvLoop μ_loop
+Third = tie.After-times-in-loop-k-2 invariant-loop-k decreases-loop-k
 
-abbrev pub To-fourth : Type 0
-To-fourth = tie.After-shared-slice-known5 InvLoop μ_loop
+abbrev pub ToFourth : Type 0
+ToFourth = tie.After-shared_slice_known-in-loop-k-4-1 invariant-loop-k decreases-loop-k
 
 abbrev pub Fourth : Type 0
-Fourth = tie.After-times4 InvLoop μ_loop
+Fourth = tie.After-times-in-loop-k-3 invariant-loop-k decreases-loop-k
 
 abbrev pub begins :
     Begins →
@@ -72,10 +72,10 @@ placed c =
     let head = c.before.before in
     record { head = head }
 
-abbrev pub to-first :
-    To-first →
+abbrev pub to_first :
+    ToFirst →
     record { head : Head }
-to-first c =
+to_first c =
     let head = c.before.before.before in
     record { head = head }
 
@@ -86,10 +86,10 @@ first c =
     let head = c.before.before.before.before in
     record { head = head }
 
-abbrev pub to-second :
-    To-second →
+abbrev pub to_second :
+    ToSecond →
     record { start : Start; head : Head }
-to-second c =
+to_second c =
     let head = c.before.before.before.before.before in
     let start = head.before.before.before in
     record { start = start; head = head }
@@ -103,10 +103,10 @@ second c =
     let start = head.before.before.before in
     record { start = start; head = head; first = first }
 
-abbrev pub to-third :
-    To-third →
+abbrev pub to_third :
+    ToThird →
     record { start : Start; head : Head }
-to-third c =
+to_third c =
     let head = c.before.before.before.before.before.before.before in
     let start = head.before.before.before in
     record { start = start; head = head }
@@ -121,10 +121,10 @@ third c =
     let start = head.before.before.before in
     record { start = start; head = head; first = first; second = second }
 
-abbrev pub to-fourth :
-    To-fourth →
+abbrev pub to_fourth :
+    ToFourth →
     record { start : Start; head : Head }
-to-fourth c =
+to_fourth c =
     let head = c.before.before.before.before.before.before.before.before.before in
     let start = head.before.before.before in
     record { start = start; head = head }
@@ -142,11 +142,19 @@ fourth c =
     record { start = start; head = head; turn = turn; first = first; second = second; third = third }
 
 -- the code's places and needs when this was made, by which `places` follows a change of the code
--- code: Start After-slice-known=slice-known After-shared-slice-known=shared-slice-known At-loop=loop In-loop=loop-test After-loop=loop-test
--- code: After-slice-known2=slice-known2 After-shared-slice-known2=shared-slice-known2 After-times=times After-shared-slice-known3=shared-slice-known3
--- code: After-times2=times2 After-shared-slice-known4=shared-slice-known4 After-times3=times3 After-shared-slice-known5=shared-slice-known5
--- code: After-times4=times4
--- needs: sub-n loop-holds add-e mul-sums slice-read-sums add-times mul-times shared-slice-read-times times-requires add-times-2 mul-times-2
--- needs: shared-slice-read-times-2 times-requires-2 add-sums add-times-3 mul-times-3 shared-slice-read-times-3 times-requires-3 add-sums-2
--- needs: add-times-4 mul-times-4 shared-slice-read-times-4 times-requires-4 add-sums-3 add-sums-4 mul-sums-2 slice-write-sums add-k loop-less
--- needs: loop-again same-length returns
+-- code: Start After-slice_known-1=slice_known-1 After-shared_slice_known-1=shared_slice_known-1 At-loop-k=loop-k In-loop-k=loop-k-test
+-- code: After-loop-k=loop-k-test After-slice_known-in-loop-k-1-unread=slice_known-in-loop-k-1 After-slice_known-in-loop-k-1=slice_known-in-loop-k-1
+-- code: After-shared_slice_known-in-loop-k-1-unread=shared_slice_known-in-loop-k-1
+-- code: After-shared_slice_known-in-loop-k-1=shared_slice_known-in-loop-k-1 After-times=times
+-- code: After-shared_slice_known-in-loop-k-2-1-unread=shared_slice_known-in-loop-k-2-1
+-- code: After-shared_slice_known-in-loop-k-2-1=shared_slice_known-in-loop-k-2-1 After-times-in-loop-k=times-in-loop-k
+-- code: After-shared_slice_known-in-loop-k-3-1-unread=shared_slice_known-in-loop-k-3-1
+-- code: After-shared_slice_known-in-loop-k-3-1=shared_slice_known-in-loop-k-3-1 After-times-in-loop-k-2=times-in-loop-k-2
+-- code: After-shared_slice_known-in-loop-k-4-1-unread=shared_slice_known-in-loop-k-4-1
+-- code: After-shared_slice_known-in-loop-k-4-1=shared_slice_known-in-loop-k-4-1 After-times-in-loop-k-3=times-in-loop-k-3
+-- needs: overflow_sub-n loop-k-init overflow_add-e offset_bounds-sums-e bounds-sums-e overflow_add-k offset_bounds-b-k bounds-b-k times-requires
+-- needs: overflow_add-k-in-loop-k offset_bounds-b-k-in-loop-k bounds-b-k-in-loop-k times-requires-in-loop-k overflow_add-sums
+-- needs: overflow_add-k-in-loop-k-2 offset_bounds-b-k-in-loop-k-2 bounds-b-k-in-loop-k-2 times-requires-in-loop-k-2 overflow_add-sums-in-loop-k
+-- needs: overflow_add-k-in-loop-k-3 offset_bounds-b-k-in-loop-k-3 bounds-b-k-in-loop-k-3 times-requires-in-loop-k-3 overflow_add-sums-in-loop-k-2
+-- needs: overflow_add-sums-in-loop-k-3 offset_bounds-sums-e-in-loop-k bounds-sums-e-in-loop-k overflow_add-k-in-loop-k-4 loop-k-smaller
+-- needs: loop-k-preserved shape_of-sums returns

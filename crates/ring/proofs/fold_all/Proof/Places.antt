@@ -1,39 +1,38 @@
 -- Made by `places`, from the places of the code: do not edit. A view is what was seen on the way to a place.
 use Rattle.ring.proofs.fold_all.Tie as tie
-use Rattle.ring.proofs.fold_all.Proof.Invariants.{InvLoop, μ_loop}
 
 abbrev pub Start : Type 0
-Start = tie.Start InvLoop μ_loop
+Start = tie.Start
 
 abbrev pub Cleared : Type 0
-Cleared = tie.After-clear-numbers InvLoop μ_loop
+Cleared = tie.After-clear_numbers
 
 abbrev pub Begins : Type 0
-Begins = tie.After-slice-known2 InvLoop μ_loop
+Begins = tie.After-slice_known-2-1
 
 abbrev pub Head : Type 0
-Head = tie.At-loop InvLoop μ_loop
+Head = tie.At-loop-e
 
 abbrev pub Turn : Type 0
-Turn = tie.In-loop InvLoop μ_loop
+Turn = tie.In-loop-e
 
 abbrev pub Ended : Type 0
-Ended = tie.After-loop InvLoop μ_loop
+Ended = tie.After-loop-e
 
 abbrev pub Read : Type 0
-Read = tie.After-shared-slice-known2 InvLoop μ_loop
+Read = tie.After-shared_slice_known-in-loop-e-1
 
 abbrev pub Reduced : Type 0
-Reduced = tie.After-modulo InvLoop μ_loop
+Reduced = tie.After-modulo-c
 
-abbrev pub To-fold : Type 0
-To-fold = tie.After-fold-in-arg InvLoop μ_loop
+abbrev pub ToFold : Type 0
+ToFold = tie.After-fold_in-arg-1
 
 abbrev pub Folded : Type 0
-Folded = tie.After-fold-in InvLoop μ_loop
+Folded = tie.After-fold_in
 
 abbrev pub Turned : Type 0
-Turned = tie.After-slice-known3 InvLoop μ_loop
+Turned = tie.After-slice_known-in-loop-e-1
 
 abbrev pub begins :
     Begins →
@@ -57,10 +56,10 @@ read c =
     let head = c.before.before in
     record { head = head }
 
-abbrev pub to-fold :
-    To-fold →
+abbrev pub to_fold :
+    ToFold →
     record { head : Head; turn : Turn; reduced : Reduced }
-to-fold c =
+to_fold c =
     let reduced = c.before in
     let turn = reduced.before.before in
     let head = turn.before in
@@ -77,9 +76,11 @@ turned c =
     record { head = head; turn = turn; reduced = reduced; folded = folded }
 
 -- the code's places and needs when this was made, by which `places` follows a change of the code
--- code: Start After-shared-slice-known=shared-slice-known After-slice-known=slice-known After-struct-known=struct-known
--- code: After-struct-known2=struct-known2 After-clear-numbers-arg=clear-numbers-arg After-clear-numbers=clear-numbers After-out=out
--- code: After-slice-known2=slice-known2 At-loop=loop In-loop=loop-test After-loop=loop-test After-shared-slice-known2=shared-slice-known2
--- code: After-modulo=modulo After-fold-in-arg=fold-in-arg After-fold-in=fold-in After-out2=out2 After-slice-known3=slice-known3
--- needs: mul-count sub-count clear-numbers-requires loop-holds mul-modulo shared-slice-read-modulo modulo-requires fold-in-requires add-e loop-less
--- needs: loop-again same-length returns
+-- code: Start After-shared_slice_known-1=shared_slice_known-1 After-slice_known-1=slice_known-1 After-struct_known-1=struct_known-1
+-- code: After-struct_known-2-1=struct_known-2-1 After-clear_numbers-arg-1=clear_numbers-arg-1 After-clear_numbers=clear_numbers After-out-1=out-1
+-- code: After-slice_known-2-1=slice_known-2-1 At-loop-e=loop-e In-loop-e=loop-e-test After-loop-e=loop-e-test
+-- code: After-shared_slice_known-in-loop-e-1-unread=shared_slice_known-in-loop-e-1
+-- code: After-shared_slice_known-in-loop-e-1=shared_slice_known-in-loop-e-1 After-modulo-c=modulo-c After-fold_in-arg-1=fold_in-arg-1
+-- code: After-fold_in=fold_in After-out-in-loop-e-1=out-in-loop-e-1 After-slice_known-in-loop-e-1=slice_known-in-loop-e-1
+-- needs: overflow_mul-count overflow_sub-count clear_numbers-requires loop-e-init offset_bounds-sums-e bounds-sums-e modulo-c-requires
+-- needs: fold_in-requires overflow_add-e loop-e-smaller loop-e-preserved shape_of-out returns

@@ -5,55 +5,52 @@ abbrev pub Start : Type 0
 Start = tie.Start
 
 abbrev pub Entered : Type 0
-Entered = tie.After-slice-known
+Entered = tie.After-slice_known-1
 
 abbrev pub Ranged : Type 0
-Ranged = tie.After-range-of
+Ranged = tie.After-range_of-range
 
 abbrev pub Doubles : Type 0
-Doubles = tie.At-match-keys1
+Doubles = tie.In-2
 
-abbrev pub To-high : Type 0
-To-high = tie.After-add-at-arg
+abbrev pub ToHigh : Type 0
+ToHigh = tie.After-add_at-arg-1
 
-abbrev pub High-added : Type 0
-High-added = tie.After-add-at
+abbrev pub HighAdded : Type 0
+HighAdded = tie.After-add_at
 
-abbrev pub To-low : Type 0
-To-low = tie.After-add-at-arg2
+abbrev pub ToLow : Type 0
+ToLow = tie.After-add_at-arg-in-2-1
 
-abbrev pub Low-added : Type 0
-Low-added = tie.After-add-at2
+abbrev pub LowAdded : Type 0
+LowAdded = tie.After-add_at-in-2
 
 abbrev pub Doubled : Type 0
-Doubled = tie.After-slice-known3
-
-abbrev pub Other : Type 0
-Other = tie.At-match-rest
+Doubled = tie.After-slice_known-in-2-2-1
 
 abbrev pub Stays : Type 0
-Stays = tie.Then1
+Stays = tie.In-0-to-1
 
-abbrev pub To-same : Type 0
-To-same = tie.After-add-at-arg3
+abbrev pub ToSame : Type 0
+ToSame = tie.After-add_at-arg-in-0-to-1-1
 
-abbrev pub Same-added : Type 0
-Same-added = tie.After-add-at3
+abbrev pub SameAdded : Type 0
+SameAdded = tie.After-add_at-in-0-to-1
 
 abbrev pub Stayed : Type 0
-Stayed = tie.After-slice-known4
+Stayed = tie.After-slice_known-then-range-lt2-1
 
 abbrev pub Negates : Type 0
-Negates = tie.Else1
+Negates = tie.In_default
 
-abbrev pub To-negative : Type 0
-To-negative = tie.After-add-at-arg4
+abbrev pub ToNegative : Type 0
+ToNegative = tie.After-add_at-arg-in_default-1
 
-abbrev pub Negative-added : Type 0
-Negative-added = tie.After-add-at4
+abbrev pub NegativeAdded : Type 0
+NegativeAdded = tie.After-add_at-in_default
 
 abbrev pub Negated : Type 0
-Negated = tie.After-slice-known5
+Negated = tie.After-slice_known-in_default-1
 
 abbrev pub entered :
     Entered →
@@ -71,7 +68,7 @@ doubles c =
     record { start = start; ranged = ranged }
 
 abbrev pub to_high :
-    To-high →
+    ToHigh →
     record { start : Start; doubles : Doubles }
 to_high c =
     let doubles = c.before in
@@ -79,79 +76,82 @@ to_high c =
     record { start = start; doubles = doubles }
 
 abbrev pub to_low :
-    To-low →
-    record { start : Start; doubles : Doubles; high-added : High-added }
+    ToLow →
+    record { start : Start; doubles : Doubles; high_added : HighAdded }
 to_low c =
-    let high-added = c.before.before.before in
-    let doubles = high-added.before.before in
+    let high_added = c.before.before.before in
+    let doubles = high_added.before.before in
     let start = doubles.before.before.before in
-    record { start = start; doubles = doubles; high-added = high-added }
+    record { start = start; doubles = doubles; high_added = high_added }
 
 abbrev pub doubled :
     Doubled →
-    record { start : Start; doubles : Doubles; high-added : High-added; low-added : Low-added }
+    record { start : Start; doubles : Doubles; high_added : HighAdded; low_added : LowAdded }
 doubled c =
-    let low-added = c.before.before in
-    let high-added = low-added.before.before.before.before in
-    let doubles = high-added.before.before in
+    let low_added = c.before.before in
+    let high_added = low_added.before.before.before.before in
+    let doubles = high_added.before.before in
     let start = doubles.before.before.before in
-    record { start = start; doubles = doubles; high-added = high-added; low-added = low-added }
+    record { start = start; doubles = doubles; high_added = high_added; low_added = low_added }
 
 abbrev pub stays :
     Stays →
     record { start : Start; ranged : Ranged }
 stays c =
-    let ranged = c.before.before in
+    let ranged = c.before in
     let start = ranged.before.before in
     record { start = start; ranged = ranged }
 
 abbrev pub to_same :
-    To-same →
+    ToSame →
     record { start : Start; stays : Stays }
 to_same c =
     let stays = c.before in
-    let start = stays.before.before.before.before in
+    let start = stays.before.before.before in
     record { start = start; stays = stays }
 
 abbrev pub stayed :
     Stayed →
-    record { start : Start; stays : Stays; same-added : Same-added }
+    record { start : Start; stays : Stays; same_added : SameAdded }
 stayed c =
-    let same-added = c.before.before in
-    let stays = same-added.before.before in
-    let start = stays.before.before.before.before in
-    record { start = start; stays = stays; same-added = same-added }
+    let same_added = c.before.before in
+    let stays = same_added.before.before in
+    let start = stays.before.before.before in
+    record { start = start; stays = stays; same_added = same_added }
 
 abbrev pub negates :
     Negates →
-    record { start : Start; ranged : Ranged; other : Other }
+    record { start : Start; ranged : Ranged }
 negates c =
-    let other = c.before in
-    let ranged = other.before in
+    let ranged = c.before in
     let start = ranged.before.before in
-    record { start = start; ranged = ranged; other = other }
+    record { start = start; ranged = ranged }
 
-abbrev pub to-negative :
-    To-negative →
+abbrev pub to_negative :
+    ToNegative →
     record { start : Start; negates : Negates }
-to-negative c =
+to_negative c =
     let negates = c.before in
-    let start = negates.before.before.before.before in
+    let start = negates.before.before.before in
     record { start = start; negates = negates }
 
 abbrev pub negated :
     Negated →
-    record { start : Start; negates : Negates; negative-added : Negative-added }
+    record { start : Start; negates : Negates; negative_added : NegativeAdded }
 negated c =
-    let negative-added = c.before.before in
-    let negates = negative-added.before.before in
-    let start = negates.before.before.before.before in
-    record { start = start; negates = negates; negative-added = negative-added }
+    let negative_added = c.before.before in
+    let negates = negative_added.before.before in
+    let start = negates.before.before.before in
+    record { start = start; negates = negates; negative_added = negative_added }
 
 -- the code's places and needs when this was made, by which `places` follows a change of the code
--- code: Start After-slice-known=slice-known After-range-of=range-of At-match-keys1=match After-add-at-arg=add-at-arg After-add-at=add-at
--- code: After-out=out After-slice-known2=slice-known2 After-add-at-arg2=add-at-arg2 After-add-at2=add-at2 After-out2=out2
--- code: After-slice-known3=slice-known3 At-match-rest=match Then1=if1 After-add-at-arg3=add-at-arg3 After-add-at3=add-at3 After-out3=out3
--- code: After-slice-known4=slice-known4 Else1=if1 After-add-at-arg4=add-at-arg4 After-add-at4=add-at4 After-out4=out4 After-slice-known5=slice-known5
--- needs: range-of-requires sub-high sub-low add-at-requires sub-add-at add-at-requires-2 add-at-requires-3 mul-add-at sub-add-at-2 sub-add-at-3
--- needs: add-at-requires-4 same-length returns same-length-2 returns-2 same-length-3 returns-3
+-- code: Start After-slice_known-1=slice_known-1 After-range_of-range=range_of-range Walked-In-2=in-2-1 In-2 After-add_at-arg-1=add_at-arg-1
+-- code: After-add_at=add_at After-out-1=out-1 After-slice_known-in-2-1=slice_known-in-2-1 After-add_at-arg-in-2-1=add_at-arg-in-2-1
+-- code: After-add_at-in-2=add_at-in-2 After-out-in-2-1=out-in-2-1 After-slice_known-in-2-2-1=slice_known-in-2-2-1 In_default-1=in_default-1
+-- code: Walked-In-0-to-1=if-range-lt2-1 In-0-to-1 After-add_at-arg-in-0-to-1-1=add_at-arg-in-0-to-1-1 After-add_at-in-0-to-1=add_at-in-0-to-1
+-- code: After-out-then-range-lt2-1=out-then-range-lt2-1 After-slice_known-then-range-lt2-1=slice_known-then-range-lt2-1
+-- code: Walked-In_default=if-range-lt2-1 In_default After-add_at-arg-in_default-1=add_at-arg-in_default-1 After-add_at-in_default=add_at-in_default
+-- code: After-out-in_default-1=out-in_default-1 After-slice_known-in_default-1=slice_known-in_default-1
+-- needs: range_of-range-requires overflow_sub-high overflow_sub-low add_at-requires overflow_sub-q add_at-requires-in-2 add_at-requires-in-0-to-1
+-- needs: overflow_mul-half overflow_sub-e overflow_sub-q-in_default add_at-requires-in_default shape_of-out-in-2 returns-in-2 shape_of-out-in-0-to-1
+-- needs: returns-in-0-to-1 shape_of-out-in_default returns-in_default

@@ -4,48 +4,48 @@ use Rattle.ring.proofs.multiply_in.Tie as tie
 abbrev pub Start : Type 0
 Start = tie.Start
 
-abbrev pub Pad-done : Type 0
-Pad-done = tie.After-pad
+abbrev pub PadDone : Type 0
+PadDone = tie.After-pad
 
 abbrev pub Cleared : Type 0
-Cleared = tie.After-clear-words
+Cleared = tie.After-clear_words
 
-abbrev pub To-rows : Type 0
-To-rows = tie.After-rows-arg2
+abbrev pub ToRows : Type 0
+ToRows = tie.After-rows-arg-1
 
-abbrev pub Rows-done : Type 0
-Rows-done = tie.After-rows
+abbrev pub RowsDone : Type 0
+RowsDone = tie.After-rows
 
-abbrev pub Fold-done : Type 0
-Fold-done = tie.After-fold-all
+abbrev pub FoldDone : Type 0
+FoldDone = tie.After-fold_all
 
 abbrev pub Done : Type 0
-Done = tie.After-slice-known7
+Done = tie.After-slice_known-7-1
 
-abbrev pub to-rows :
-    To-rows →
-    record { start : Start; pad-done : Pad-done; cleared : Cleared }
-to-rows c =
-    let cleared = c.before.before.before.before in
-    let pad-done = cleared.before.before.before.before in
-    let start = pad-done.before.before.before.before.before.before.before in
-    record { start = start; pad-done = pad-done; cleared = cleared }
+abbrev pub to_rows :
+    ToRows →
+    record { start : Start; pad_done : PadDone; cleared : Cleared }
+to_rows c =
+    let cleared = c.before.before.before in
+    let pad_done = cleared.before.before.before.before in
+    let start = pad_done.before.before.before.before.before.before.before in
+    record { start = start; pad_done = pad_done; cleared = cleared }
 
 abbrev pub done :
     Done →
-    record { start : Start; pad-done : Pad-done; rows-done : Rows-done; fold_done : Fold-done }
+    record { start : Start; pad_done : PadDone; rows_done : RowsDone; fold_done : FoldDone }
 done c =
     let fold_done = c.before.before in
-    let rows-done = fold_done.before.before.before.before.before in
-    let pad-done = rows-done.before.before.before.before.before.before.before.before.before in
-    let start = pad-done.before.before.before.before.before.before.before in
-    record { start = start; pad-done = pad-done; rows-done = rows-done; fold_done = fold_done }
+    let rows_done = fold_done.before.before.before.before in
+    let pad_done = rows_done.before.before.before.before.before.before.before.before in
+    let start = pad_done.before.before.before.before.before.before.before in
+    record { start = start; pad_done = pad_done; rows_done = rows_done; fold_done = fold_done }
 
 -- the code's places and needs when this was made, by which `places` follows a change of the code
--- code: Start After-shared-slice-known=shared-slice-known After-shared-slice-known2=shared-slice-known2 After-slice-known=slice-known
--- code: After-slice-known2=slice-known2 After-slice-known3=slice-known3 After-pad-arg=pad-arg After-pad=pad After-padded=padded
--- code: After-slice-known4=slice-known4 After-clear-words-arg=clear-words-arg After-clear-words=clear-words After-sums=sums
--- code: After-slice-known5=slice-known5 After-rows-arg=rows-arg After-rows-arg2=rows-arg2 After-rows=rows After-sums2=sums2
--- code: After-slice-known6=slice-known6 After-fold-all-arg=fold-all-arg After-fold-all-arg2=fold-all-arg2 After-fold-all=fold-all After-out=out
--- code: After-slice-known7=slice-known7
--- needs: pad-requires clear-words-requires rows-requires fold-all-requires same-length same-length-2 same-length-3 returns
+-- code: Start After-shared_slice_known-1=shared_slice_known-1 After-shared_slice_known-2-1=shared_slice_known-2-1 After-slice_known-1=slice_known-1
+-- code: After-slice_known-2-1=slice_known-2-1 After-slice_known-3-1=slice_known-3-1 After-pad-arg-1=pad-arg-1 After-pad=pad After-padded-1=padded-1
+-- code: After-slice_known-4-1=slice_known-4-1 After-clear_words-arg-1=clear_words-arg-1 After-clear_words=clear_words After-sums-1=sums-1
+-- code: After-slice_known-5-1=slice_known-5-1 After-rows-arg-1=rows-arg-1 After-rows=rows After-sums-2-1=sums-2-1
+-- code: After-slice_known-6-1=slice_known-6-1 After-fold_all-arg-1=fold_all-arg-1 After-fold_all=fold_all After-out-1=out-1
+-- code: After-slice_known-7-1=slice_known-7-1
+-- needs: pad-requires clear_words-requires rows-requires fold_all-requires shape_of-padded shape_of-sums shape_of-out returns

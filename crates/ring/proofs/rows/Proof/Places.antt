@@ -1,66 +1,65 @@
 -- Made by `places`, from the places of the code: do not edit. A view is what was seen on the way to a place.
 use Rattle.ring.proofs.rows.Tie as tie
-use Rattle.ring.proofs.rows.Proof.Invariants.{InvLoop, μ_loop}
 
 abbrev pub Start : Type 0
-Start = tie.Start InvLoop μ_loop
+Start = tie.Start
 
 abbrev pub Begins : Type 0
-Begins = tie.After-slice-known InvLoop μ_loop
+Begins = tie.After-slice_known-1
 
 abbrev pub Head : Type 0
-Head = tie.At-loop InvLoop μ_loop
+Head = tie.At-loop-next
 
 abbrev pub Turn : Type 0
-Turn = tie.In-loop InvLoop μ_loop
+Turn = tie.In-loop-next
 
 abbrev pub Ended : Type 0
-Ended = tie.After-loop InvLoop μ_loop
+Ended = tie.After-loop-next
 
 abbrev pub Some : Type 0
-Some = tie.Then1 InvLoop μ_loop
+Some = tie.Then-a0-gt0
 
 abbrev pub First : Type 0
-First = tie.After-past-zeros InvLoop μ_loop
+First = tie.After-past_zeros-i1
 
 abbrev pub Second : Type 0
-Second = tie.After-past-zeros2 InvLoop μ_loop
+Second = tie.After-past_zeros-i2
 
 abbrev pub Third : Type 0
-Third = tie.After-past-zeros3 InvLoop μ_loop
+Third = tie.After-past_zeros-i3
 
-abbrev pub First-read : Type 0
-First-read = tie.After-coefficient InvLoop μ_loop
+abbrev pub FirstRead : Type 0
+FirstRead = tie.After-coefficient-a1
 
-abbrev pub Second-read : Type 0
-Second-read = tie.After-coefficient2 InvLoop μ_loop
+abbrev pub SecondRead : Type 0
+SecondRead = tie.After-coefficient-a2
 
-abbrev pub Third-read : Type 0
-Third-read = tie.After-coefficient3 InvLoop μ_loop
+abbrev pub ThirdRead : Type 0
+ThirdRead = tie.After-coefficient-a3
 
-abbrev pub To-four : Type 0
-To-four = tie.After-add-rows-arg InvLoop μ_loop
+abbrev pub ToFour : Type 0
+ToFour = tie.After-add_rows-arg-1
 
-abbrev pub Four-done : Type 0
-Four-done = tie.After-add-rows InvLoop μ_loop
+abbrev pub FourDone : Type 0
+FourDone = tie.After-add_rows
 
-abbrev pub Four-turned : Type 0
-Four-turned = tie.After-slice-known2 InvLoop μ_loop
+abbrev pub FourTurned : Type 0
+FourTurned = tie.After-slice_known-then-a1-a2-gt0-1
 
 abbrev pub Alone : Type 0
-Alone = tie.Else2 InvLoop μ_loop
+Alone = tie.Else-a1-a2-gt0
 
-abbrev pub To-one : Type 0
-To-one = tie.After-add-row-arg InvLoop μ_loop
+abbrev pub ToOne : Type 0
+ToOne = tie.After-add_row-arg-1
 
-abbrev pub One-done : Type 0
-One-done = tie.After-add-row InvLoop μ_loop
+abbrev pub OneDone : Type 0
+OneDone = tie.After-add_row
 
-abbrev pub One-turned : Type 0
-One-turned = tie.After-slice-known3 InvLoop μ_loop
+abbrev pub OneTurned : Type 0
+OneTurned = tie.After-slice_known-else-a1-a2-gt0-1
 
 abbrev pub Zero : Type 0
-Zero = tie.Else1 InvLoop μ_loop
+Zero = tie.Else-a0-gt0
 
 abbrev pub begins :
     Begins →
@@ -123,64 +122,64 @@ third c =
     record { head = head; second = second }
 
 abbrev pub first_read :
-    First-read →
+    FirstRead →
     record { head : Head; first : First }
 first_read c =
     let first = c.before.before.before in
     let head = first.before.before.before.before in
     record { head = head; first = first }
 
-abbrev pub second-read :
-    Second-read →
+abbrev pub second_read :
+    SecondRead →
     record { head : Head; second : Second }
-second-read c =
+second_read c =
     let second = c.before.before.before in
     let head = second.before.before.before.before.before in
     record { head = head; second = second }
 
-abbrev pub third-read :
-    Third-read →
-    record { head : Head; turn : Turn; third : Third; first_read : First-read; second-read : Second-read }
-third-read c =
-    let second-read = c.before in
-    let first_read = second-read.before in
+abbrev pub third_read :
+    ThirdRead →
+    record { head : Head; turn : Turn; third : Third; first_read : FirstRead; second_read : SecondRead }
+third_read c =
+    let second_read = c.before in
+    let first_read = second_read.before in
     let third = first_read.before in
     let turn = third.before.before.before.before.before in
     let head = turn.before in
-    record { head = head; turn = turn; third = third; first_read = first_read; second-read = second-read }
+    record { head = head; turn = turn; third = third; first_read = first_read; second_read = second_read }
 
-abbrev pub to-four :
-    To-four →
-    record { head : Head; turn : Turn; first : First; second : Second; third : Third; first_read : First-read; second-read : Second-read; third-read : Third-read }
-to-four c =
-    let third-read = c.before.before in
-    let second-read = third-read.before in
-    let first_read = second-read.before in
+abbrev pub to_four :
+    ToFour →
+    record { head : Head; turn : Turn; first : First; second : Second; third : Third; first_read : FirstRead; second_read : SecondRead; third_read : ThirdRead }
+to_four c =
+    let third_read = c.before.before in
+    let second_read = third_read.before in
+    let first_read = second_read.before in
     let third = first_read.before in
     let second = third.before in
     let first = second.before in
     let turn = first.before.before.before in
     let head = turn.before in
-    record { head = head; turn = turn; first = first; second = second; third = third; first_read = first_read; second-read = second-read; third-read = third-read }
+    record { head = head; turn = turn; first = first; second = second; third = third; first_read = first_read; second_read = second_read; third_read = third_read }
 
-abbrev pub four-turned :
-    Four-turned →
+abbrev pub four_turned :
+    FourTurned →
     record {
       head : Head;
       turn : Turn;
       first : First;
       second : Second;
       third : Third;
-      first_read : First-read;
-      second-read : Second-read;
-      third-read : Third-read;
-      four-done : Four-done;
+      first_read : FirstRead;
+      second_read : SecondRead;
+      third_read : ThirdRead;
+      four_done : FourDone;
     }
-four-turned c =
-    let four-done = c.before.before in
-    let third-read = four-done.before.before.before in
-    let second-read = third-read.before in
-    let first_read = second-read.before in
+four_turned c =
+    let four_done = c.before.before in
+    let third_read = four_done.before.before.before in
+    let second_read = third_read.before in
+    let first_read = second_read.before in
     let third = first_read.before in
     let second = third.before in
     let first = second.before in
@@ -193,39 +192,39 @@ four-turned c =
       second = second;
       third = third;
       first_read = first_read;
-      second-read = second-read;
-      third-read = third-read;
-      four-done = four-done;
+      second_read = second_read;
+      third_read = third_read;
+      four_done = four_done;
     }
 
 abbrev pub to_one :
-    To-one →
+    ToOne →
     record { head : Head; turn : Turn }
 to_one c =
     let turn = c.before.before.before.before.before.before.before.before.before.before in
     let head = turn.before in
     record { head = head; turn = turn }
 
-abbrev pub one-turned :
-    One-turned →
+abbrev pub one_turned :
+    OneTurned →
     record {
       head : Head;
       turn : Turn;
       first : First;
       second : Second;
       third : Third;
-      first_read : First-read;
-      second-read : Second-read;
-      third-read : Third-read;
+      first_read : FirstRead;
+      second_read : SecondRead;
+      third_read : ThirdRead;
       alone : Alone;
-      one-done : One-done;
+      one_done : OneDone;
     }
-one-turned c =
-    let one-done = c.before.before in
-    let alone = one-done.before.before in
-    let third-read = alone.before in
-    let second-read = third-read.before in
-    let first_read = second-read.before in
+one_turned c =
+    let one_done = c.before.before in
+    let alone = one_done.before.before in
+    let third_read = alone.before in
+    let second_read = third_read.before in
+    let first_read = second_read.before in
     let third = first_read.before in
     let second = third.before in
     let first = second.before in
@@ -238,10 +237,10 @@ one-turned c =
       second = second;
       third = third;
       first_read = first_read;
-      second-read = second-read;
-      third-read = third-read;
+      second_read = second_read;
+      third_read = third_read;
       alone = alone;
-      one-done = one-done;
+      one_done = one_done;
     }
 
 abbrev pub zero :
@@ -252,13 +251,18 @@ zero c =
     record { head = head }
 
 -- the code's places and needs when this was made, by which `places` follows a change of the code
--- code: Start After-shared-slice-known=shared-slice-known After-shared-slice-known2=shared-slice-known2 After-slice-known=slice-known At-loop=loop
--- code: In-loop=loop-test After-loop=loop-test After-shared-slice-known3=shared-slice-known3 Then1=if1 After-past-zeros=past-zeros
--- code: After-past-zeros2=past-zeros2 After-past-zeros3=past-zeros3 After-coefficient=coefficient After-coefficient2=coefficient2
--- code: After-coefficient3=coefficient3 Then2=if2 After-add-rows-arg=add-rows-arg After-add-rows=add-rows After-sums=sums
--- code: After-slice-known2=slice-known2 Else2=if2 After-add-row-arg=add-row-arg After-add-row=add-row After-sums2=sums2
--- code: After-slice-known3=slice-known3 Else1=if1
--- needs: loop-holds mul-a0 shared-slice-read-a0 add-next add-past-zeros add-past-zeros-2 past-zeros-requires add-past-zeros-3 add-past-zeros-4
--- needs: past-zeros-requires-2 add-past-zeros-5 add-past-zeros-6 past-zeros-requires-3 coefficient-requires coefficient-requires-2
--- needs: coefficient-requires-3 add-end add-next-2 add-if2 add-if2-2 sub-add-rows sub-add-rows-2 sub-add-rows-3 add-rows-requires loop-less
--- needs: loop-again add-row-requires loop-less-2 loop-again-2 loop-less-3 loop-again-3 same-length returns
+-- code: Start After-shared_slice_known-1=shared_slice_known-1 After-shared_slice_known-2-1=shared_slice_known-2-1 After-slice_known-1=slice_known-1
+-- code: At-loop-next=loop-next In-loop-next=loop-next-test After-loop-next=loop-next-test
+-- code: After-shared_slice_known-in-loop-next-1-unread=shared_slice_known-in-loop-next-1
+-- code: After-shared_slice_known-in-loop-next-1=shared_slice_known-in-loop-next-1 Then-a0-gt0=if-a0-gt0 After-past_zeros-i1=past_zeros-i1
+-- code: After-past_zeros-i2=past_zeros-i2 After-past_zeros-i3=past_zeros-i3 After-coefficient-a1=coefficient-a1 After-coefficient-a2=coefficient-a2
+-- code: After-coefficient-a3=coefficient-a3 Then-a1-a2-gt0=if-a1-a2-gt0 After-add_rows-arg-1=add_rows-arg-1 After-add_rows=add_rows
+-- code: After-sums-1=sums-1 After-slice_known-then-a1-a2-gt0-1=slice_known-then-a1-a2-gt0-1 Else-a1-a2-gt0=if-a1-a2-gt0
+-- code: After-add_row-arg-1=add_row-arg-1 After-add_row=add_row After-sums-else-a1-a2-gt0-1=sums-else-a1-a2-gt0-1
+-- code: After-slice_known-else-a1-a2-gt0-1=slice_known-else-a1-a2-gt0-1 Else-a0-gt0=if-a0-gt0
+-- needs: loop-next-init offset_bounds-a-i bounds-a-i overflow_add-next overflow_add-i overflow_add-i-then-a0-gt0 past_zeros-i1-requires
+-- needs: overflow_add-i1 overflow_add-i-then-a0-gt0-2 past_zeros-i2-requires overflow_add-i2 overflow_add-i-then-a0-gt0-3 past_zeros-i3-requires
+-- needs: coefficient-a1-requires coefficient-a2-requires coefficient-a3-requires overflow_add-end overflow_add-next-then-a0-gt0 overflow_add-a1
+-- needs: overflow_add-a1-then-a0-gt0 overflow_sub-end overflow_sub-end-then-a1-a2-gt0 overflow_sub-end-then-a1-a2-gt0-2 add_rows-requires
+-- needs: loop-next-smaller-then-a1-a2-gt0 loop-next-preserved-then-a1-a2-gt0 add_row-requires loop-next-smaller-else-a1-a2-gt0
+-- needs: loop-next-preserved-else-a1-a2-gt0 loop-next-smaller loop-next-preserved shape_of-sums returns

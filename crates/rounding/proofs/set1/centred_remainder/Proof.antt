@@ -8,14 +8,14 @@ use borrow.Author.Rules.{rules}
 use Rattle.rounding.proofs.set1.centred_remainder.Statement.{statement}
 use Rattle.rounding.proofs.set1.centred_remainder.Tie as tie
 
-x_is : (c : tie.After-plain-remainder) → c.plain_remainder.result ≡ residue 8401537 c.before.args.r
-x_is c = c.plain_remainder.ensures ∙ ap (residue 8401537) (back w32 c.before.ranges.r)
+x_is : (c : tie.After-plain_remainder) → c.plain_remainder.result ≡ residue 8401537 c.args.r
+x_is c = c.plain_remainder.ensures ∙ ap (residue 8401537) (back w32 c.ranges.r)
 
-plain_remainder_requires : tie.Need-plain-remainder-requires
+plain_remainder_requires : tie.Need-plain_remainder-requires
 plain_remainder_requires c κs = search rules
 
 centre_requires : tie.Need-centre-requires
-centre_requires c κs = omega (arith, x_is c, set1_lt c.before.args.r)
+centre_requires c κs = omega (arith, x_is c, set1_lt c.args.r)
 
 returns : tie.Need-returns
 unfolding centred

@@ -7,20 +7,20 @@ use borrow.Author.Rules.{rules}
 use Rattle.rounding.proofs.set1.decompose.Statement.{statement}
 use Rattle.rounding.proofs.set1.decompose.Tie as tie
 
-x_is : (c : tie.After-plain-remainder) → c.plain_remainder.result ≡ residue 8401537 c.before.before.args.r
-x_is c = c.plain_remainder.ensures ∙ ap (residue 8401537) (back w32 c.before.before.ranges.r)
+x_is : (c : tie.After-plain_remainder) → c.plain_remainder.result ≡ residue 8401537 c.args.r
+x_is c = c.plain_remainder.ensures ∙ ap (residue 8401537) (back w32 c.ranges.r)
 
 numbers_requires : tie.Need-numbers-requires
 numbers_requires c κs = search rules
 
-plain_remainder_requires : tie.Need-plain-remainder-requires
+plain_remainder_requires : tie.Need-plain_remainder-requires
 plain_remainder_requires c κs = search rules
 
-split_of_requires : tie.Need-split-of-requires
-split_of_requires c κs = (good_of _ c.before.numbers.ensures, below _ c.before.numbers.ensures _ _ (x_is c))
+split_of_requires : tie.Need-split_of-requires
+split_of_requires c κs = (good_of _ c.numbers.ensures, below _ c.numbers.ensures _ _ (x_is c))
 
 returns : tie.Need-returns
-returns c = decompose_of _ c.before.before.numbers.ensures _ _ (x_is c.before) _ c.split_of.ensures
+returns c = decompose_of _ c.numbers.ensures _ _ (x_is c.before) _ c.split_of.ensures
 
 pub decompose_spec : {M : Type 1} → statement M
 decompose_spec =

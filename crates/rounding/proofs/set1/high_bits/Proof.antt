@@ -9,11 +9,11 @@ use borrow.Author.Rules.{rules}
 use Rattle.rounding.proofs.set1.high_bits.Statement.{statement}
 use Rattle.rounding.proofs.set1.high_bits.Tie as tie
 
-decompose_requires : tie.Need-decompose-requires
+decompose_requires : tie.Need-decompose-s-requires
 decompose_requires c κs = search rules
 
 returns : tie.Need-returns
-returns c = ap (λ (s : Split). s.high) c.decompose.ensures ∙ ap (λ (z : ℤ). high_bits set1 z) (back w32 c.before.ranges.r)
+returns c = ap (λ (s : Split). s.high) c.decompose-s.ensures ∙ ap (λ (z : ℤ). high_bits set1 z) (back w32 c.ranges.r)
 
 pub high_bits_spec : {M : Type 1} → statement M
 high_bits_spec = tie.close (tie.spec decompose_requires returns)

@@ -13,61 +13,61 @@ use Rattle.rounding.proofs.Signed.{set1_lt}
 use Rattle.rounding.proofs.set1.norm.Statement.{statement}
 use Rattle.rounding.proofs.set1.norm.Tie as tie
 
-abbrev invariant-loop : tie.invariant-loop
-invariant-loop values most₀ i₀ most i = (i ≤ length values) × (max most (norm 8401537 (drop i values)) ≡ norm 8401537 values)
+abbrev invariant-loop-i : tie.invariant-loop-i
+invariant-loop-i values most₀ i₀ most i = (i ≤ length values) × (max most (norm 8401537 (drop i values)) ≡ norm 8401537 values)
 
-abbrev decreases-loop : tie.decreases-loop
-decreases-loop values most₀ i₀ most i = length values - i
+abbrev decreases-loop-i : tie.decreases-loop-i
+decreases-loop-i values most₀ i₀ most i = length values - i
 
 -- the coefficient's remainder, and its magnitude
-x_is : (c : tie.After-plain-remainder invariant-loop decreases-loop) → c.plain_remainder.result ≡ residue 8401537
-    (get_or c.before.before.before.before.args.values.now c.before.before.before.loop.i (pos 0))
-x_is c = c.plain_remainder.ensures ∙ ap (residue 8401537) (to_z-of_z (record { sfits = c.before.plain-remainder-arg.given }))
+x_is : (c : tie.After-plain_remainder invariant-loop-i decreases-loop-i) → c.plain_remainder.result ≡ residue 8401537
+    (get_or c.args.values.now c.loop-i.i (pos 0))
+x_is c = c.plain_remainder.ensures ∙ ap (residue 8401537) (to_z-of_z (record { sfits = c.plain_remainder-arg-1.given }))
 
-m_is : (c : tie.After-magnitude invariant-loop decreases-loop) → c.magnitude.result ≡ magnitude 8401537
-    (get_or c.before.before.before.before.before.args.values.now c.before.before.before.before.loop.i (pos 0))
+m_is : (c : tie.After-magnitude-m invariant-loop-i decreases-loop-i) → c.magnitude-m.result ≡ magnitude 8401537
+    (get_or c.args.values.now c.loop-i.i (pos 0))
 unfolding centred
-m_is c = c.magnitude.ensures ∙ ap (λ (x : ℕ). nat_abs (signed 8401537 x)) (x_is c.before)
+m_is c = c.magnitude-m.ensures ∙ ap (λ (x : ℕ). nat_abs (signed 8401537 x)) (x_is c.before)
 
-loop-holds : tie.Need-loop-init invariant-loop decreases-loop
+loop-holds : tie.Need-loop-i-init invariant-loop-i decreases-loop-i
 loop-holds c = search rules
 
-mul_plain_remainder : tie.Need-overflow-mul-plain-remainder invariant-loop decreases-loop
+mul_plain_remainder : tie.Need-offset_bounds-values-i invariant-loop-i decreases-loop-i
 mul_plain_remainder c = search rules
 
 shared-slice-copy-out-plain-remainder :
-    tie.Need-shared-slice-copy-out-plain-remainder invariant-loop decreases-loop
+    tie.Need-bounds-values-i invariant-loop-i decreases-loop-i
 shared-slice-copy-out-plain-remainder c = search rules
 
-plain_remainder_requires : tie.Need-plain-remainder-requires invariant-loop decreases-loop
+plain_remainder_requires : tie.Need-plain_remainder-requires invariant-loop-i decreases-loop-i
 plain_remainder_requires c κs = search rules
 
-magnitude_requires : tie.Need-magnitude-requires invariant-loop decreases-loop
-magnitude_requires c κs = omega (arith, x_is c, set1_lt (get_or c.before.before.before.before.args.values.now c.before.before.before.loop.i (pos 0)))
+magnitude_requires : tie.Need-magnitude-m-requires invariant-loop-i decreases-loop-i
+magnitude_requires c κs = omega (arith, x_is c, set1_lt (get_or c.args.values.now c.loop-i.i (pos 0)))
 
-add_i : tie.Need-overflow-add-i invariant-loop decreases-loop
+add_i : tie.Need-overflow_add-i invariant-loop-i decreases-loop-i
 add_i c = search rules
 
-loop-less : tie.Need-loop-smaller invariant-loop decreases-loop
+loop-less : tie.Need-loop-i-smaller invariant-loop-i decreases-loop-i
 loop-less c = search rules
 
-loop-again : tie.Need-loop-preserved invariant-loop decreases-loop
+loop-again : tie.Need-loop-i-preserved invariant-loop-i decreases-loop-i
 loop-again c =
-    let l = c.before.before.before.before.before.loop in
+    let l = c.loop-i in
     let m = m_is c.before in
-    let n = norm_next 8401537 c.before.before.before.before.before.before.args.values.now l.i c.before.before.before.before.loop-test.true in
-    (omega arith, ⊎_elim (λ w. omega (arith, w.0.taken, w.1)) (λ w. omega (arith, w.0.left, w.1)) c.if1.branch)
+    let n = norm_next 8401537 c.args.values.now l.i c.loop-i-test.true in
+    (omega arith, ⊎_elim (λ w. omega (arith, w.0.taken, w.1)) (λ w. omega (arith, w.0.left, w.1)) c.if-most-m.branch)
 
-returns : tie.Need-returns invariant-loop decreases-loop
+returns : tie.Need-returns invariant-loop-i decreases-loop-i
 returns c =
-    omega (arith, norm_end 8401537 c.before.before.args.values.now c.before.loop.i c.loop-test.false)
+    omega (arith, norm_end 8401537 c.args.values.now c.loop-i.i c.loop-i-test.false)
 
 pub norm_spec : {M : Type 1} → statement M
 norm_spec =
     tie.close
     (tie.spec
-    invariant-loop
-    decreases-loop
+    invariant-loop-i
+    decreases-loop-i
     loop-holds
     mul_plain_remainder
     shared-slice-copy-out-plain-remainder

@@ -10,7 +10,7 @@ reduce_requires : tie.Need-reduce-requires
 reduce_requires c κs = search rules
 
 returns : tie.Need-returns
-returns c = c.reduce.ensures ∙ ap (residue 8401537) (back w32 c.before.ranges.r)
+returns c = c.reduce.ensures ∙ ap (residue 8401537) (back w32 c.ranges.r)
 
 pub plain_remainder_spec : {M : Type 1} → statement M
 plain_remainder_spec = tie.close (tie.spec reduce_requires returns)

@@ -7,27 +7,27 @@ use borrow.Author.Rules.{rules}
 use Rattle.rounding.proofs.set1.use_hint.Statement.{statement}
 use Rattle.rounding.proofs.set1.use_hint.Tie as tie
 
-x_is : (c : tie.After-plain-remainder) → c.plain_remainder.result ≡ residue 8401537 c.before.before.before.args.r
-x_is c = c.plain_remainder.ensures ∙ ap (residue 8401537) (back w32 c.before.before.before.ranges.r)
+x_is : (c : tie.After-plain_remainder) → c.plain_remainder.result ≡ residue 8401537 c.args.r
+x_is c = c.plain_remainder.ensures ∙ ap (residue 8401537) (back w32 c.ranges.r)
 
-returns : tie.Need-returns
-returns c = bad_hint _ _ c.if1.true
+returns : tie.Need-returns-then-h-gt1
+returns c = bad_hint _ _ c.if-h-gt1.true
 
 numbers_requires : tie.Need-numbers-requires
 numbers_requires c κs = search rules
 
-plain_remainder_requires : tie.Need-plain-remainder-requires
+plain_remainder_requires : tie.Need-plain_remainder-requires
 plain_remainder_requires c κs = search rules
 
-used_of_requires : tie.Need-used-of-requires
+used_of_requires : tie.Need-used_of-requires
 used_of_requires c κs =
-    let e = c.before.numbers.ensures in
+    let e = c.numbers.ensures in
     (good_of _ e, below _ e _ _ (x_is c))
 
-returns-2 : tie.Need-returns-2
+returns-2 : tie.Need-returns
 returns-2 c =
-    good_hint _ _ _ c.before.before.before.if1.false
-    (use_of _ c.before.before.numbers.ensures _ _ (x_is c.before) _ _ c.used_of.ensures)
+    good_hint _ _ _ c.if-h-gt1.false
+    (use_of _ c.numbers.ensures _ _ (x_is c.before) _ _ c.used_of.ensures)
 
 pub use_hint_spec : {M : Type 1} → statement M
 use_hint_spec =

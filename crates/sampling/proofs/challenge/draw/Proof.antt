@@ -5,32 +5,32 @@ use borrow.Author.Rules.{rules}
 use Rattle.sampling.proofs.challenge.draw.Statement.{statement}
 use Rattle.sampling.proofs.challenge.draw.Tie as tie
 
-add_next : tie.Need-overflow-add-next
+add_next : tie.Need-overflow_add-next
 add_next c = search rules
 
-shared_slice_read_result : tie.Need-shared-slice-read-result
+shared_slice_read_result : tie.Need-bounds-stream-at
 shared_slice_read_result c = search rules
 
-cast_result : tie.Need-overflow-cast-result
-cast_result c = omega (arith, c.shared-slice-known.given c.before.args.at)
+cast_result : tie.Need-overflow_cast-result
+cast_result c = omega (arith, c.shared_slice_known-1.given c.args.at)
 
-shared_slice_read_result_2 : tie.Need-shared-slice-read-result-2
+shared_slice_read_result_2 : tie.Need-bounds-stream-next
 shared_slice_read_result_2 c = search rules
 
-cast_result_2 : tie.Need-overflow-cast-result-2
-cast_result_2 c = omega (arith, c.before.shared-slice-known.given (c.before.before.args.at + 1))
+cast_result_2 : tie.Need-overflow_cast-result-2
+cast_result_2 c = omega (arith, c.shared_slice_known-1.given (c.args.at + 1))
 
-mul_result : tie.Need-overflow-mul-result
-mul_result c = omega (arith, c.before.shared-slice-known.given (c.before.before.args.at + 1))
+mul_result : tie.Need-overflow_mul-result
+mul_result c = omega (arith, c.shared_slice_known-1.given (c.args.at + 1))
 
-add_result : tie.Need-overflow-add-result
-add_result c = omega (arith, c.before.shared-slice-known.given c.before.before.args.at, c.before.shared-slice-known.given (c.before.before.args.at + 1))
+add_result : tie.Need-overflow_add-result
+add_result c = omega (arith, c.shared_slice_known-1.given c.args.at, c.shared_slice_known-1.given (c.args.at + 1))
 
-rem_result : tie.Need-nonzero-rem-result
+rem_result : tie.Need-nonzero_rem-result
 rem_result c = search rules
 
 returns : tie.Need-returns
-returns c = rw (two_bytes c.before.before.args.stream.now (λ k. omega (arith, c.before.shared-slice-known.given k)) c.before.before.args.at)
+returns c = rw (two_bytes c.args.stream.now (λ k. omega (arith, c.shared_slice_known-1.given k)) c.args.at)
 
 pub draw_spec : {M : Type 1} → statement M
 draw_spec =

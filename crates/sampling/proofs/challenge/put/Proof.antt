@@ -4,25 +4,25 @@ use borrow.Author.Rules.{rules}
 use Rattle.sampling.proofs.challenge.put.Statement.{statement}
 use Rattle.sampling.proofs.challenge.put.Tie as tie
 
-mul_out : tie.Need-overflow-mul-out
+mul_out : tie.Need-offset_bounds-out-j
 mul_out c = search rules
 
-slice_copy_out_out : tie.Need-slice-copy-out-out
+slice_copy_out_out : tie.Need-slice_copy_out-out
 slice_copy_out_out c = search rules
 
-mul_t8 : tie.Need-overflow-mul-t8
+mul_t8 : tie.Need-offset_bounds-out-i
 mul_t8 c = search rules
 
-slice_set_from_out : tie.Need-slice-set-from-out
+slice_set_from_out : tie.Need-bounds-out-i
 slice_set_from_out c = search rules
 
-mul_v : tie.Need-overflow-mul-v
+mul_v : tie.Need-offset_bounds-out-j-2
 mul_v c = search rules
 
-slice_set_from_v : tie.Need-slice-set-from-v
+slice_set_from_v : tie.Need-bounds-out-j
 slice_set_from_v c = simp length-set (omega arith)
 
-same_length : tie.Need-same-length
+same_length : tie.Need-shape_of-out
 same_length c = search rules
 
 returns : tie.Need-returns

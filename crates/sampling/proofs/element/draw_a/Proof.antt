@@ -9,79 +9,79 @@ use Rattle.sampling.proofs.Going.{going_none, a_more, a_dry, a_all}
 use borrow.Author.Rules.{rules}
 use Rattle.sampling.proofs.element.draw_a.Statement.{statement}
 use Rattle.sampling.proofs.element.draw_a.Tie as tie
-use Invariants.{InvLoop, μ_loop}
-use Places.{after-slice-known2, else1, then2, after-keep-arg, after-struct-known3}
+use Invariants.{invariant-loop-found, decreases-loop-found}
+use Places.{after-slice_known-2-1, after-loop-found, then-stream-at, after-keep-arg-1, after-struct_known-in-loop-found-2-1}
 
-clear_numbers_requires : tie.Need-clear-numbers-requires InvLoop μ_loop
+clear_numbers_requires : tie.Need-clear_numbers-requires invariant-loop-found decreases-loop-found
 clear_numbers_requires c κs = search rules
 
-loop-holds : tie.Need-loop-init InvLoop μ_loop
+loop-holds : tie.Need-loop-found-init invariant-loop-found decreases-loop-found
 loop-holds c =
-    let at = after-slice-known2 c in
-    (at.start.pre.0, going_none _ _ _ _ _ _ _ (at.after-clear-numbers.clear_numbers.ensures ∙ ap (λ (k : ℕ). replicate k 0) at.start.pre.1))
+    let at = after-slice_known-2-1 c in
+    (at.start.requires.0, going_none _ _ _ _ _ _ _ (at.after-clear_numbers.clear_numbers.ensures ∙ ap (λ (k : ℕ). replicate k 0) at.start.requires.1))
 
-sub_if2 : tie.Need-overflow-sub-if2 InvLoop μ_loop
+sub_if2 : tie.Need-overflow_sub-stream invariant-loop-found decreases-loop-found
 sub_if2 c = search rules
 
-same_length : tie.Need-same-length InvLoop μ_loop
+same_length : tie.Need-shape_of-out-then-stream-at invariant-loop-found decreases-loop-found
 same_length c = search rules
 
-returns : tie.Need-returns InvLoop μ_loop
-returns c = let at = then2 c in a_dry _ _ _ _ _ at.at-loop.loop.inv.1 at.then1.if1.taken c.if2.true
+returns : tie.Need-returns-then-stream-at invariant-loop-found decreases-loop-found
+returns c = let at = then-stream-at c in a_dry _ _ _ _ _ at.at-loop-found.loop-found.inv.1 at.in-loop-found.loop-found-test.taken c.if-stream-at.true
 
-sub_group : tie.Need-overflow-sub-group InvLoop μ_loop
+sub_group : tie.Need-slice_bounds-group-count invariant-loop-found decreases-loop-found
 sub_group c = search rules
 
-part_group_start : tie.Need-slice-bounds-group-start InvLoop μ_loop
+part_group_start : tie.Need-slice_bounds-group-start invariant-loop-found decreases-loop-found
 part_group_start c = search rules
 
-part_group_end : tie.Need-slice-bounds-group-end InvLoop μ_loop
+part_group_end : tie.Need-slice_bounds-group-end invariant-loop-found decreases-loop-found
 part_group_end c = search rules
 
-group_requires : tie.Need-group-requires InvLoop μ_loop
+group_requires : tie.Need-group-requires invariant-loop-found decreases-loop-found
 group_requires c κs = search rules
 
-keep_requires : tie.Need-keep-requires InvLoop μ_loop
-keep_requires c κs = (omega (arith, (after-keep-arg c).at-loop.loop.inv.1.long), (after-keep-arg c).at-loop.loop.inv.1.free _ (omega arith))
+keep_requires : tie.Need-keep-found-requires invariant-loop-found decreases-loop-found
+keep_requires c κs = (omega (arith, (after-keep-arg-1 c).at-loop-found.loop-found.inv.1.long), (after-keep-arg-1 c).at-loop-found.loop-found.inv.1.free _ (omega arith))
 
-add_at : tie.Need-overflow-add-at InvLoop μ_loop
+add_at : tie.Need-overflow_add-at invariant-loop-found decreases-loop-found
 add_at c =
     omega (
       arith,
-      (after-struct-known3 c).else2.if2.left,
-      (after-struct-known3 c).at-loop.loop.inv.1.within,
-      (after-struct-known3 c).start.good.1.0.0,
+      (after-struct_known-in-loop-found-2-1 c).else-stream-at.if-stream-at.left,
+      (after-struct_known-in-loop-found-2-1 c).at-loop-found.loop-found.inv.1.within,
+      (after-struct_known-in-loop-found-2-1 c).start.good.1.0.0,
     )
 
-loop-less : tie.Need-loop-smaller InvLoop μ_loop
+loop-less : tie.Need-loop-found-smaller invariant-loop-found decreases-loop-found
 loop-less c =
     omega (
       arith,
-      some_bytes (after-struct-known3 c).start.args.p (after-struct-known3 c).start.pre.0,
-      (after-struct-known3 c).at-loop.loop.inv.1.within,
+      some_bytes (after-struct_known-in-loop-found-2-1 c).start.args.p (after-struct_known-in-loop-found-2-1 c).start.requires.0,
+      (after-struct_known-in-loop-found-2-1 c).at-loop-found.loop-found.inv.1.within,
     )
 
-loop-again : tie.Need-loop-preserved InvLoop μ_loop
+loop-again : tie.Need-loop-found-preserved invariant-loop-found decreases-loop-found
 loop-again c = (
-  (after-struct-known3 c).start.pre.0,
-  a_more _ _ _ _ _ (after-struct-known3 c).at-loop.loop.inv.1
-      (λ k. omega (arith, (after-struct-known3 c).after-shared-slice-known.shared-slice-known.given k)) (after-struct-known3 c).start.pre.0
-      (after-struct-known3 c).then1.if1.taken (after-struct-known3 c).else2.if2.left _ (after-struct-known3 c).after-group.group.ensures _ _
-      (after-struct-known3 c).after-keep.keep.kept.1.1.0 (after-struct-known3 c).after-keep.keep.ensures,
+  (after-struct_known-in-loop-found-2-1 c).start.requires.0,
+  a_more _ _ _ _ _ (after-struct_known-in-loop-found-2-1 c).at-loop-found.loop-found.inv.1
+      (λ k. omega (arith, (after-struct_known-in-loop-found-2-1 c).after-shared_slice_known-1.shared_slice_known-1.given k)) (after-struct_known-in-loop-found-2-1 c).start.requires.0
+      (after-struct_known-in-loop-found-2-1 c).in-loop-found.loop-found-test.taken (after-struct_known-in-loop-found-2-1 c).else-stream-at.if-stream-at.left _ (after-struct_known-in-loop-found-2-1 c).after-group.group.ensures _ _
+      (after-struct_known-in-loop-found-2-1 c).after-keep-found.keep-found.auto.out (after-struct_known-in-loop-found-2-1 c).after-keep-found.keep-found.ensures,
 )
 
-same_length_2 : tie.Need-same-length-2 InvLoop μ_loop
+same_length_2 : tie.Need-shape_of-out invariant-loop-found decreases-loop-found
 same_length_2 c = search rules
 
-returns-2 : tie.Need-returns-2 InvLoop μ_loop
-returns-2 c = a_all _ _ _ _ _ (else1 c).at-loop.loop.inv.1 c.if1.false
+returns-2 : tie.Need-returns invariant-loop-found decreases-loop-found
+returns-2 c = a_all _ _ _ _ _ (after-loop-found c).at-loop-found.loop-found.inv.1 c.loop-found-test.false
 
 pub draw_a_spec : {M : Type 1} → statement M
 draw_a_spec =
     tie.close
     (tie.spec
-    InvLoop
-    μ_loop
+    invariant-loop-found
+    decreases-loop-found
     clear_numbers_requires
     loop-holds
     sub_if2

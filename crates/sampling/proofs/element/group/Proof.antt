@@ -8,35 +8,35 @@ use borrow.Author.Rules.{rules}
 use Rattle.sampling.proofs.element.group.Statement.{statement}
 use Rattle.sampling.proofs.element.group.Tie as tie
 
-cast_wide : tie.Need-overflow-cast-wide
-cast_wide c = omega (arith, few_bits c.before.before.args.p c.before.before.requires)
+cast_wide : tie.Need-overflow_cast-wide
+cast_wide c = omega (arith, few_bits c.args.p c.requires)
 
 window_requires : tie.Need-window-requires
 window_requires c κs = search rules
 
-cast_result : tie.Need-overflow-cast-result
+cast_result : tie.Need-overflow_cast-result
 cast_result c = search rules
 
-cast_result_2 : tie.Need-overflow-cast-result-2
+cast_result_2 : tie.Need-overflow_cast-result-2
 cast_result_2 c = search rules
 
-shl_result : tie.Need-overflow-shl-result
-shl_result c = omega (arith, few_bits c.before.before.before.args.p c.before.before.before.requires)
+shl_result : tie.Need-overflow_shl-result
+shl_result c = omega (arith, few_bits c.args.p c.requires)
 
-rem_result : tie.Need-nonzero-rem-result
+rem_result : tie.Need-nonzero_rem-result
 rem_result c =
-    rw (one_shifted _ (few_bits c.before.before.before.args.p c.before.before.before.requires))
-    (pow_pos c.before.before.before.args.p.abits)
+    rw (one_shifted _ (few_bits c.args.p c.requires))
+    (pow_pos c.args.p.abits)
 
-cast_result_3 : tie.Need-overflow-cast-result-3
-cast_result_3 c = omega (arith, mod-le c.window.result (1 * 2 ^ c.before.before.before.args.p.abits % 18446744073709551616), c.window.type-inv)
+cast_result_3 : tie.Need-overflow_cast-result-3
+cast_result_3 c = omega (arith, mod-le c.window.result (1 * 2 ^ c.args.p.abits % 18446744073709551616), c.window.type_inv)
 
 returns : tie.Need-returns
 returns c =
-    rw (one_shifted _ (few_bits c.before.before.before.args.p c.before.before.before.requires), c.window.ensures)
-    (group_in_window c.before.before.before.args.stream.now c.before.before.before.args.p.abits
-    c.before.before.before.args.p.abytes (λ k. omega (arith, c.before.before.shared-slice-known.given k))
-    c.before.before.before.requires.a_bytes c.before.before.before.requires.a_room)
+    rw (one_shifted _ (few_bits c.args.p c.requires), c.window.ensures)
+    (group_in_window c.args.stream.now c.args.p.abits
+    c.args.p.abytes (λ k. omega (arith, c.shared_slice_known-1.given k))
+    c.requires.a_bytes c.requires.a_room)
 
 pub group_spec : {M : Type 1} → statement M
 group_spec =

@@ -8,49 +8,49 @@ use Rattle.sampling.proofs.Calling.{told_s, wrong_length, call_dry, call_done}
 use borrow.Author.Rules.{rules}
 use Rattle.sampling.proofs.set1.sample_s.Statement.{statement}
 use Rattle.sampling.proofs.set1.sample_s.Tie as tie
-use Places.{after-s, after-enum-told2, after-out}
+use Places.{after-s-1, in_default, after-out-1}
 
-returns : tie.Need-returns
-returns c = refusing _ _ _ (wrong_length sample_s _ _ c.if1.true)
+returns : tie.Need-returns-then-out-ne-N
+returns c = refusing _ _ _ (wrong_length sample_s _ _ c.if-out-ne-N.true)
 
 numbers_requires : tie.Need-numbers-requires
 numbers_requires c κs = search rules
 
-slice_aggregate_draw_s : tie.Need-slice-aggregate-draw-s
+slice_aggregate_draw_s : tie.Need-slice_bounds-draw_s-end
 slice_aggregate_draw_s c = search rules
 
-draw_s_requires : tie.Need-draw-s-requires
-draw_s_requires c κs = rw (after-s c).after-numbers.numbers.ensures (good_set1, refl)
+draw_s_requires : tie.Need-draw_s-requires
+draw_s_requires c κs = rw (after-s-1 c).after-numbers.numbers.ensures (good_set1, refl)
 
-enum_told : tie.Need-enum-told
+enum_told : tie.Need-enum_told-1
 enum_told c = search rules
 
-enum_told_2 : tie.Need-enum-told-2
+enum_told_2 : tie.Need-enum_told-in_default
 enum_told_2 c = search rules
 
-returns-2 : tie.Need-returns-2
+returns-2 : tie.Need-returns-in_default
 returns-2 c =
-    let at = after-enum-told2 c in
+    let at = in_default c in
     refusing _ _ _
-    (call_dry sample_s _ _ at.else1.if1.left _ _
-    (told_s _ at.after-numbers.numbers.ensures at.start.args.stream.now _ _ at.after-draw-s.draw_s.ensures) c.enum-told2.given.1)
+    (call_dry sample_s _ _ at.else-out-ne-N.if-out-ne-N.left _ _
+    (told_s _ at.after-numbers.numbers.ensures at.start.args.stream.now _ _ at.after-draw_s.draw_s.ensures) c.enum_told-in_default-1.given.1)
 
-slice_aggregate_copy_signed : tie.Need-slice-aggregate-copy-signed
+slice_aggregate_copy_signed : tie.Need-slice_bounds-copy_signed-end
 slice_aggregate_copy_signed c = search rules
 
-copy_signed_requires : tie.Need-copy-signed-requires
+copy_signed_requires : tie.Need-copy_signed-requires
 copy_signed_requires c κs = search rules
 
-same_length : tie.Need-same-length
+same_length : tie.Need-shape_of-out
 same_length c = search rules
 
-returns-3 : tie.Need-returns-3
+returns-3 : tie.Need-returns
 returns-3 c =
-    let at = after-out c in
+    let at = after-out-1 c in
     doing _ _ _ _
-    (call_done sample_s _ _ at.else1.if1.left _ _
-    (told_s _ at.after-numbers.numbers.ensures at.start.args.stream.now _ _ at.after-draw-s.draw_s.ensures) at.after-enum-told.enum_told.given.1)
-    (at.after-copy-signed.copy_signed.ensures ∙ overlay_all _ at.start.args.out.now (at.else1.if1.left ∙ sym at.after-draw-s.draw_s.kept.1.1.0))
+    (call_done sample_s _ _ at.else-out-ne-N.if-out-ne-N.left _ _
+    (told_s _ at.after-numbers.numbers.ensures at.start.args.stream.now _ _ at.after-draw_s.draw_s.ensures) at.in-All.enum_told-1.given.1)
+    (at.after-copy_signed.copy_signed.ensures ∙ overlay_all _ at.start.args.out.now (at.else-out-ne-N.if-out-ne-N.left ∙ sym at.after-draw_s.draw_s.auto.out))
 
 pub sample_s_spec : {M : Type 1} → statement M
 sample_s_spec =

@@ -12,35 +12,35 @@ use Rattle.sampling.proofs.small.keep.Statement.{statement}
 use Rattle.sampling.proofs.small.keep.Tie as tie
 use Places.{after-counted}
 
-mul_passes : tie.Need-overflow-mul-passes
+mul_passes : tie.Need-overflow_mul-passes
 mul_passes c = search rules
 
 difference_requires : tie.Need-difference-requires
 difference_requires c κs = search rules
 
-taken_signed_requires : tie.Need-taken-signed-requires
+taken_signed_requires : tie.Need-taken_signed-requires
 taken_signed_requires c κs = search rules
 
-mul_t9 : tie.Need-overflow-mul-t9
+mul_t9 : tie.Need-offset_bounds-out-found
 mul_t9 c = search rules
 
-slice_set_from_out : tie.Need-slice-set-from-out
+slice_set_from_out : tie.Need-bounds-out-found
 slice_set_from_out c = search rules
 
 counted_requires : tie.Need-counted-requires
 counted_requires c κs = search rules
 
-same_length : tie.Need-same-length
+same_length : tie.Need-shape_of-out
 same_length c = search rules
 
 returns : tie.Need-returns
 returns c =
     let at = after-counted c in
-    kept_by (pos 0) (is_s at.start.args.p at.start.args.v) (means_s at.start.args.p at.start.args.v) _ at.start.args.out.now _ _ at.start.pre.1.2
+    kept_by (pos 0) (is_s at.start.args.p at.start.args.v) (means_s at.start.args.p at.start.args.v) _ at.start.args.out.now _ _ at.start.requires.1.2
     c.counted.ensures
     (ap (set at.start.args.out.now at.start.args.found)
-    (to_z-of_z (record { sfits = at.after-taken-signed.taken-signed.ok }) ∙
-    at.after-taken-signed.taken-signed.ensures ∙
+    (to_z-of_z (record { sfits = at.after-taken_signed.taken_signed.ok }) ∙
+    at.after-taken_signed.taken_signed.ensures ∙
     ap (λ (z : ℤ). cond (is_s at.start.args.p at.start.args.v) z (pos 0))
     (to_z-of_z (record { sfits = at.after-difference.difference.ok }) ∙
     at.after-difference.difference.ensures ∙

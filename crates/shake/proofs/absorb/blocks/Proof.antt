@@ -12,44 +12,44 @@ use Rattle.shake.proofs.Blocks.{next_block, no_block}
 use Rattle.shake.proofs.absorb.blocks.Statement.{statement}
 use Rattle.shake.proofs.absorb.blocks.Tie as tie
 
-abbrev invariant-loop : tie.invariant-loop
-invariant-loop m s₀ i₀ s i =
+abbrev invariant-loop-i : tie.invariant-loop-i
+invariant-loop-i m s₀ i₀ s i =
     (i ≤ length m) × (i % 136 ≡ 0) × (absorbed ((length m - i) / 136) (drop i m) (keccak s) ≡ absorbed ((length m - 136) / 136) (drop 136 m) (keccak s₀))
 
-abbrev decreases-loop : tie.decreases-loop
-decreases-loop m s₀ i₀ s i = length m - i
+abbrev decreases-loop-i : tie.decreases-loop-i
+decreases-loop-i m s₀ i₀ s i = length m - i
 
-loop-holds : tie.Need-loop-init invariant-loop decreases-loop
+loop-holds : tie.Need-loop-i-init invariant-loop-i decreases-loop-i
 loop-holds c = (omega arith, omega arith, refl)
 
-loop-again : tie.Need-loop-preserved invariant-loop decreases-loop
+loop-again : tie.Need-loop-i-preserved invariant-loop-i decreases-loop-i
 loop-again c =
-    let m = c.before.before.before.before.before.before.args.m.now in
-    let l = c.before.before.before.loop in
+    let m = c.args.m.now in
+    let l = c.loop-i in
     let h : l.i + 136 ≤ length m = omega arith in
-    let e = c.xored2.ensures ∙ ap (λ (t : List (List ℕ)). xored t (block m l.i)) c.before.permute.ensures in (
+    let e = c.xored-u.ensures ∙ ap (λ (t : List (List ℕ)). xored t (block m l.i)) c.permute-t.ensures in (
       h,
       omega arith,
       ap (λ (s : List (List ℕ)). absorbed ((length m - (l.i + 136)) / 136) (drop (l.i + 136) m) (keccak s)) e ∙
           sym (next_block m l.i (keccak l.s) h) ∙ l.invariant.2,
     )
 
-returns : tie.Need-returns invariant-loop decreases-loop
+returns : tie.Need-returns invariant-loop-i decreases-loop-i
 returns c =
-    let a = c.before.before.before.before.before.args in
+    let a = c.args in
     let m = a.m.now in
-    let l = c.before.before.loop in
+    let l = c.loop-i in
     let e : length m / 136 ≡ (length m - 0) / 136 = omega arith in
-    c.permute2.ensures ∙ sym (no_block ((length m - l.i) / 136) (drop l.i m) (keccak l.s) (omega arith)) ∙ l.invariant.2 ∙
-    ap (λ (s : List (List ℕ)). absorbed ((length m - 136) / 136) (drop 136 m) (keccak s)) c.before.before.before.xored.ensures ∙
+    c.permute.ensures ∙ sym (no_block ((length m - l.i) / 136) (drop l.i m) (keccak l.s) (omega arith)) ∙ l.invariant.2 ∙
+    ap (λ (s : List (List ℕ)). absorbed ((length m - 136) / 136) (drop 136 m) (keccak s)) c.xored-s.ensures ∙
     sym (next_block m 0 a.a (omega arith)) ∙ ap (λ (n : ℕ). absorbed n m a.a) (sym e)
 
 pub blocks_spec : {M : Type 1} → statement M
 blocks_spec =
     tie.close
     (tie.spec
-    invariant-loop
-    decreases-loop
+    invariant-loop-i
+    decreases-loop-i
     (λ c κs. search rules)
     loop-holds
     (λ c κs. search rules)

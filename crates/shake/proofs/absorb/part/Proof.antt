@@ -1,14 +1,14 @@
 -- `shake::absorb::part` meets its contract. Assumes nothing. Places are named below; `places shake absorb/part` makes Proof/Places.antt of the names.
--- place fits = Then1: the part fills no block
--- place fits-copied = After-copy
--- place fits-done = After-slice-known2
--- place fills = Else1: it fills one
--- place to-copy = After-copy-arg3
--- place filled = After-copy2: the first block is whole
--- place first-in = After-blocks2: and absorbed
--- place rest-held = After-copy3: what is left of the last block is held
--- place no_more = Then2: no other block is whole
--- place all_in = After-blocks3: the other whole blocks are absorbed
+-- place fits = Then-m-room: the part fills no block
+-- place fits_copied = After-copy
+-- place fits_done = After-slice_known-then-m-room-1
+-- place fills = Else-m-room: it fills one
+-- place to_copy = After-copy-arg-2-1
+-- place filled = After-copy-2: the first block is whole
+-- place first_in = After-blocks-s: and absorbed
+-- place rest_held = After-copy-3: what is left of the last block is held
+-- place no_more = Then-n-eq0: no other block is whole
+-- place all_in = After-blocks-2: the other whole blocks are absorbed
 mod Places
 use Prim.Native.Nat.{ℕ, ◌+◌, ◌*◌, ◌/◌, ◌-◌, ◌<◌, ◌≤◌}
 use mathlib.Core.Path.{◌≡◌, refl, sym}
@@ -19,7 +19,7 @@ use lib.Seq.{length-take-le}
 use Rattle.shake.proofs.Parts.{part_short, part_long, part_none, part_some}
 use Rattle.shake.proofs.absorb.part.Statement.{statement}
 use Rattle.shake.proofs.absorb.part.Tie as tie
-use Places.{Start, Fits, fits, fits-done, Fills, fills, to-copy, Filled, no_more, all_in}
+use Places.{Start, Fits, fits, fits_done, Fills, fills, to_copy, Filled, no_more, all_in}
 
 -- ---- what the walk speaks of
 -- the bytes that the first block lacks, and those of the whole blocks after it
@@ -38,48 +38,48 @@ short c = omega arith
 enough : (c : Fills) → room (fills c).start ≤ length (fills c).start.args.m.now
 enough c = omega arith
 
-filled_long : (c : Filled) → length c.copy2.new.0 ≡ 136
+filled_long : (c : Filled) → length c.copy-2.new.dst ≡ 136
 filled_long c = omega arith
 
 -- ---- it fills no block
-returns : tie.Need-returns
+returns : tie.Need-returns-then-m-room
 returns c =
-    let at = fits-done c in
+    let at = fits_done c in
     let s = at.start in
-    part_short s.args.held.now s.args.m.now s.args.pos s.args.a s.pre.0 s.pre.1 (short at.fits) at.fits-copied.copy.ensures
+    part_short s.args.held.now s.args.m.now s.args.pos s.args.a s.requires.0 s.requires.1 (short at.fits) at.fits_copied.copy.ensures
 
 -- ---- it fills one
-slice_aggregate_copy : tie.Need-slice-aggregate-copy
+slice_aggregate_copy : tie.Need-slice_bounds-copy-end
 slice_aggregate_copy c =
-    let at = to-copy c in
+    let at = to_copy c in
     sym (length-take-le (room at.start) at.start.args.m.now (enough at.fills))
 
 copy_requires_2 : tie.Need-copy-requires-2
 copy_requires_2 c κs =
-    omega (arith, length-take-le (room (to-copy c).start) (to-copy c).start.args.m.now (enough (to-copy c).fills))
+    omega (arith, length-take-le (room (to_copy c).start) (to_copy c).start.args.m.now (enough (to_copy c).fills))
 
-returns-2 : tie.Need-returns-2
+returns-2 : tie.Need-returns-then-n-eq0
 returns-2 c =
     let at = no_more c in
     let s = at.start in
     let e = whole s in
     let l = enough at.fills in
-    let none = part_none s.args.held.now s.args.m.now s.args.pos s.args.a s.pre.0 s.pre.1 (room s) (more s) e l refl
-    at.first-in.blocks2.result c.if2.true in
-    part_long s.args.held.now s.args.m.now s.args.pos s.args.a s.pre.0 s.pre.1 (room s) (more s) e l refl
-    at.filled.copy2.last.0 (filled_long at.filled) at.filled.copy2.ensures at.first-in.blocks2.ensures at.rest_held.copy3.ensures none
+    let none = part_none s.args.held.now s.args.m.now s.args.pos s.args.a s.requires.0 s.requires.1 (room s) (more s) e l refl
+    at.first_in.blocks-s.result c.if-n-eq0.true in
+    part_long s.args.held.now s.args.m.now s.args.pos s.args.a s.requires.0 s.requires.1 (room s) (more s) e l refl
+    at.filled.copy-2.new.dst (filled_long at.filled) at.filled.copy-2.ensures at.first_in.blocks-s.ensures at.rest_held.copy-3.ensures none
 
 -- ---- and more
-returns-3 : tie.Need-returns-3
+returns-3 : tie.Need-returns
 returns-3 c =
     let at = all_in c in
     let s = at.start in
     let e = whole s in
     let l = enough at.fills in
-    let some = part_some s.args.held.now s.args.m.now s.args.pos s.args.a s.pre.0 s.pre.1 (room s) (more s) e l refl
-    at.first-in.blocks2.result c.blocks3.ensures in
-    part_long s.args.held.now s.args.m.now s.args.pos s.args.a s.pre.0 s.pre.1 (room s) (more s) e l refl
-    at.filled.copy2.last.0 (filled_long at.filled) at.filled.copy2.ensures at.first-in.blocks2.ensures at.rest_held.copy3.ensures some
+    let some = part_some s.args.held.now s.args.m.now s.args.pos s.args.a s.requires.0 s.requires.1 (room s) (more s) e l refl
+    at.first_in.blocks-s.result c.blocks-2.ensures in
+    part_long s.args.held.now s.args.m.now s.args.pos s.args.a s.requires.0 s.requires.1 (room s) (more s) e l refl
+    at.filled.copy-2.new.dst (filled_long at.filled) at.filled.copy-2.ensures at.first_in.blocks-s.ensures at.rest_held.copy-3.ensures some
 
 pub part_spec : {M : Type 1} → statement M
 part_spec =

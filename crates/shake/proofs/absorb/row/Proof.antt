@@ -6,9 +6,9 @@ use Rattle.shake.proofs.absorb.row.Tie as tie
 
 returns : tie.Need-returns
 returns c =
-    let a = c.before.before.before.before.before.before.args in
-    row_made a.t1 a.m.now a.i c.before.before.before.before.word.ensures c.before.before.before.word2.ensures
-    c.before.before.word3.ensures c.before.word4.ensures c.word5.ensures
+    let a = c.args in
+    row_made a.r a.m.now a.i c.word.ensures c.word-2.ensures
+    c.word-3.ensures c.word-4.ensures c.word-5.ensures
 
 pub row_spec : {M : Type 1} → statement M
 row_spec =

@@ -6,10 +6,10 @@ use Rattle.shake.proofs.absorb.xored.Tie as tie
 
 returns : tie.Need-returns
 returns c =
-    let a = c.before.before.before.before.before.before.before.before.before.before.before.args in
-    xored_made a.t1 a.m.now a.i c.before.before.before.before.before.before.before.before.before.before.before.requires
-    c.before.before.before.before.row.ensures c.before.before.before.row2.ensures c.before.before.row3.ensures
-    c.before.word.ensures c.word2.ensures
+    let a = c.args in
+    xored_made a.a a.m.now a.i c.requires
+    c.row.ensures c.row-2.ensures c.row-3.ensures
+    c.word.ensures c.word-2.ensures
 
 pub xored_spec : {M : Type 1} → statement M
 xored_spec =

@@ -1,11 +1,11 @@
 -- `shake::squeeze::block` meets its contract: each row goes right behind the one before it. Assumes nothing.
 -- Places are named below; `places shake squeeze/block` makes Proof/Places.antt of the names.
 -- place row0 = After-row: three rows are written
--- place row1 = After-row2
--- place row2 = After-row3
+-- place row1 = After-row-2
+-- place row2 = After-row-3
 -- place lane0 = After-store: and two lanes
--- place lane1 = After-store2
--- place done = After-slice-known6
+-- place lane1 = After-store-2
+-- place done = After-slice_known-6-1
 mod Places
 use Prim.Native.Nat.{ℕ, ◌+◌, ◌≤◌}
 use mathlib.Core.Path.{refl}
@@ -32,12 +32,12 @@ returns c =
     let at = done c in
     let a = at.start.args in
     let out = a.out.now in
-    let r : ℕ → List ℕ = λ k. row_bytes (get_or a.t1 k []) in
-    let b : ℕ → List ℕ = λ k. lane_bytes (lane a.t1 k 3) in
-    let two = behind out (r 0) (r 1) a.i (a.i + 40) refl (within at.start 40 (lit≤ tt)) at.row0.row.ensures at.row1.row2.ensures in
-    let three = behind out (r 0 ++ r 1) (r 2) a.i (a.i + 80) refl (within at.start 80 (lit≤ tt)) two at.row2.row3.ensures in
+    let r : ℕ → List ℕ = λ k. row_bytes (get_or a.a k []) in
+    let b : ℕ → List ℕ = λ k. lane_bytes (lane a.a k 3) in
+    let two = behind out (r 0) (r 1) a.i (a.i + 40) refl (within at.start 40 (lit≤ tt)) at.row0.row.ensures at.row1.row-2.ensures in
+    let three = behind out (r 0 ++ r 1) (r 2) a.i (a.i + 80) refl (within at.start 80 (lit≤ tt)) two at.row-2.row-3.ensures in
     let four = behind out (r 0 ++ r 1 ++ r 2) (b 0) a.i (a.i + 120) refl (within at.start 120 (lit≤ tt)) three at.lane0.store.ensures in
-    behind out (r 0 ++ r 1 ++ r 2 ++ b 0) (b 1) a.i (a.i + 128) refl (within at.start 128 (lit≤ tt)) four at.lane1.store2.ensures
+    behind out (r 0 ++ r 1 ++ r 2 ++ b 0) (b 1) a.i (a.i + 128) refl (within at.start 128 (lit≤ tt)) four at.lane1.store-2.ensures
 
 pub block_spec : {M : Type 1} → statement M
 block_spec =

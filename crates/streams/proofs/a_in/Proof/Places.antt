@@ -8,36 +8,37 @@ abbrev pub Hashed : Type 0
 Hashed = tie.After-shake256
 
 abbrev pub Sampled : Type 0
-Sampled = tie.After-draw-a
+Sampled = tie.After-draw_a
 
 abbrev pub Full : Type 0
-Full = tie.After-enum-told
+Full = tie.In-All
 
 abbrev pub Dry : Type 0
-Dry = tie.After-enum-told2
+Dry = tie.In_default
 
 abbrev pub full :
     Full →
     record { start : Start; hashed : Hashed; sampled : Sampled }
 full c =
-    let sampled = c.before.before.before.before in
-    let hashed = sampled.before.before.before.before.before in
-    let start = hashed.before.before.before.before.before.before.before in
+    let sampled = c.before.before.before in
+    let hashed = sampled.before.before.before.before in
+    let start = hashed.before.before.before.before.before.before.before.before in
     record { start = start; hashed = hashed; sampled = sampled }
 
 abbrev pub dry :
     Dry →
     record { start : Start; hashed : Hashed; sampled : Sampled }
 dry c =
-    let sampled = c.before.before.before.before in
-    let hashed = sampled.before.before.before.before.before in
-    let start = hashed.before.before.before.before.before.before.before in
+    let sampled = c.before.before.before in
+    let hashed = sampled.before.before.before.before in
+    let start = hashed.before.before.before.before.before.before.before.before in
     record { start = start; hashed = hashed; sampled = sampled }
 
 -- the code's places and needs when this was made, by which `places` follows a change of the code
--- code: Start After-shared-slice-known=shared-slice-known After-slice-known=slice-known After-slice-known2=slice-known2 After-zero=zero
--- code: After-shake256-arg=shake256-arg After-shake256-arg2=shake256-arg2 After-shake256=shake256 After-stream=stream After-slice-known3=slice-known3
--- code: After-draw-a-arg=draw-a-arg After-draw-a-arg2=draw-a-arg2 After-draw-a=draw-a After-out=out After-slice-known4=slice-known4
--- code: At-match-keys1=match After-enum-told=enum-told At-match-keys2=match After-enum-told2=enum-told2
--- needs: slice-aggregate-shake256 slice-aggregate-shake256-2 shake256-requires draw-a-requires enum-told enum-told-2 same-length same-length-2
--- needs: returns same-length-3 same-length-4 returns-2
+-- code: Start After-shared_slice_known-1=shared_slice_known-1 After-slice_known-1=slice_known-1 After-slice_known-2-1=slice_known-2-1
+-- code: After-zero-1=zero-1 After-shake256-arg-1=shake256-arg-1 After-shake256-arg-2-1=shake256-arg-2-1 After-shake256-arg-3-1=shake256-arg-3-1
+-- code: After-shake256=shake256 After-stream-1=stream-1 After-slice_known-3-1=slice_known-3-1 After-draw_a-arg-1=draw_a-arg-1 After-draw_a=draw_a
+-- code: After-out-1=out-1 After-slice_known-4-1=slice_known-4-1 In-All-1=in-All-1 Walked-In-All=enum_told-1 In-All In_default-1=in_default-1
+-- code: Walked-In_default=enum_told-in_default-1 In_default
+-- needs: slice_bounds-shake256-end shake256-requires draw_a-requires enum_told-1 enum_told-in_default shape_of-stream-in_default
+-- needs: shape_of-out-in_default returns-in_default shape_of-stream shape_of-out returns

@@ -8,46 +8,46 @@ abbrev pub Hashed : Type 0
 Hashed = tie.After-shake256
 
 abbrev pub Sampled : Type 0
-Sampled = tie.After-draw-challenge
+Sampled = tie.After-draw_challenge
 
-abbrev pub After-enum-told : Type 0
-After-enum-told = tie.After-enum-told
+abbrev pub In-All : Type 0
+In-All = tie.In-All
 
 abbrev pub Dry : Type 0
-Dry = tie.After-enum-told2
+Dry = tie.In_default
 
 abbrev pub Reduced : Type 0
-Reduced = tie.After-reduce-all
+Reduced = tie.After-reduce_all
 
 abbrev pub Full : Type 0
-Full = tie.After-slice-known4
+Full = tie.After-slice_known-4-1
 
 abbrev pub dry :
     Dry →
     record { start : Start; hashed : Hashed; sampled : Sampled }
 dry c =
-    let sampled = c.before.before.before in
-    let hashed = sampled.before.before.before.before.before in
-    let start = hashed.before.before.before.before.before.before.before in
+    let sampled = c.before.before in
+    let hashed = sampled.before.before.before.before in
+    let start = hashed.before.before.before.before.before.before.before.before.before in
     record { start = start; hashed = hashed; sampled = sampled }
 
 abbrev pub full :
     Full →
-    record { start : Start; hashed : Hashed; sampled : Sampled; after-enum-told : After-enum-told; reduced : Reduced }
+    record { start : Start; hashed : Hashed; sampled : Sampled; in-All : In-All; reduced : Reduced }
 full c =
     let reduced = c.before.before in
-    let after-enum-told = reduced.before.before.before in
-    let sampled = after-enum-told.before.before.before in
-    let hashed = sampled.before.before.before.before.before in
-    let start = hashed.before.before.before.before.before.before.before in
-    record { start = start; hashed = hashed; sampled = sampled; after-enum-told = after-enum-told; reduced = reduced }
+    let in-All = reduced.before.before in
+    let sampled = in-All.before.before in
+    let hashed = sampled.before.before.before.before in
+    let start = hashed.before.before.before.before.before.before.before.before.before in
+    record { start = start; hashed = hashed; sampled = sampled; in-All = in-All; reduced = reduced }
 
 -- the code's places and needs when this was made, by which `places` follows a change of the code
--- code: Start After-shared-slice-known=shared-slice-known After-slice-known=slice-known After-slice-known2=slice-known2
--- code: After-shake256-arg=shake256-arg After-shake256-arg2=shake256-arg2 After-shake256-arg3=shake256-arg3 After-shake256=shake256
--- code: After-stream=stream After-slice-known3=slice-known3 After-draw-challenge-arg=draw-challenge-arg After-draw-challenge-arg2=draw-challenge-arg2
--- code: After-draw-challenge=draw-challenge After-c=c At-match-keys1=match After-enum-told=enum-told At-match-keys2=match After-enum-told2=enum-told2
--- code: After-reduce-all-arg=reduce-all-arg After-reduce-all-arg2=reduce-all-arg2 After-reduce-all=reduce-all After-out=out
--- code: After-slice-known4=slice-known4
--- needs: slice-aggregate-shake256 slice-aggregate-shake256-2 shake256-requires draw-challenge-requires enum-told enum-told-2 same-length
--- needs: same-length-2 returns reduce-all-requires same-length-3 same-length-4 same-length-5 returns-2
+-- code: Start After-shared_slice_known-1=shared_slice_known-1 After-slice_known-1=slice_known-1 After-slice_known-2-1=slice_known-2-1
+-- code: After-shake256-arg-1=shake256-arg-1 After-shake256-arg-2-1=shake256-arg-2-1 After-shake256-arg-3-1=shake256-arg-3-1
+-- code: After-shake256-arg-4-1=shake256-arg-4-1 After-shake256-arg-5-1=shake256-arg-5-1 After-shake256=shake256 After-stream-1=stream-1
+-- code: After-slice_known-3-1=slice_known-3-1 After-draw_challenge-arg-1=draw_challenge-arg-1 After-draw_challenge=draw_challenge After-c-1=c-1
+-- code: In-All-1=in-All-1 Walked-In-All=enum_told-1 In-All In_default-1=in_default-1 Walked-In_default=enum_told-in_default-1 In_default
+-- code: After-reduce_all-arg-1=reduce_all-arg-1 After-reduce_all=reduce_all After-out-1=out-1 After-slice_known-4-1=slice_known-4-1
+-- needs: shake256-requires draw_challenge-requires enum_told-1 enum_told-in_default shape_of-stream-in_default shape_of-c-in_default
+-- needs: returns-in_default reduce_all-requires shape_of-stream shape_of-c shape_of-out returns

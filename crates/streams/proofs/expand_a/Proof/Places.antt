@@ -4,27 +4,27 @@ use Rattle.streams.proofs.expand_a.Tie as tie
 abbrev pub Start : Type 0
 Start = tie.Start
 
-abbrev pub After-stream : Type 0
-After-stream = tie.After-stream
+abbrev pub After-stream-1 : Type 0
+After-stream-1 = tie.After-stream-1
 
-abbrev pub After-a-in-arg : Type 0
-After-a-in-arg = tie.After-a-in-arg
+abbrev pub After-a_in-arg-1 : Type 0
+After-a_in-arg-1 = tie.After-a_in-arg-1
 
-abbrev pub after-stream :
-    After-stream →
+abbrev pub after-stream-1 :
+    After-stream-1 →
     record { start : Start }
-after-stream c =
+after-stream-1 c =
     let start = c.before.before.before in
     record { start = start }
 
-abbrev pub after-a-in-arg :
-    After-a-in-arg →
+abbrev pub after-a_in-arg-1 :
+    After-a_in-arg-1 →
     record { start : Start }
-after-a-in-arg c =
+after-a_in-arg-1 c =
     let start = c.before.before.before.before in
     record { start = start }
 
 -- the code's places and needs when this was made, by which `places` follows a change of the code
--- code: Start After-shared-slice-known=shared-slice-known After-slice-known=slice-known After-stream=stream After-a-in-arg=a-in-arg After-a-in=a-in
--- code: After-stream2=stream2 After-out=out After-slice-known2=slice-known2
--- needs: array-borrow-prefix-stream slice-aggregate-a-in a-in-requires same-length returns
+-- code: Start After-shared_slice_known-1=shared_slice_known-1 After-slice_known-1=slice_known-1 After-stream-1=stream-1 After-a_in-arg-1=a_in-arg-1
+-- code: After-a_in=a_in After-stream-2-1=stream-2-1 After-out-1=out-1 After-slice_known-2-1=slice_known-2-1
+-- needs: slice_bounds-stream-end slice_bounds-a_in-end a_in-requires shape_of-out returns

@@ -4,37 +4,38 @@ use Rattle.streams.proofs.expand_c.Tie as tie
 abbrev pub Start : Type 0
 Start = tie.Start
 
-abbrev pub After-stream : Type 0
-After-stream = tie.After-stream
+abbrev pub After-stream-1 : Type 0
+After-stream-1 = tie.After-stream-1
 
-abbrev pub After-c : Type 0
-After-c = tie.After-c
+abbrev pub After-c-1 : Type 0
+After-c-1 = tie.After-c-1
 
-abbrev pub After-c-in-arg : Type 0
-After-c-in-arg = tie.After-c-in-arg
+abbrev pub After-c_in-arg-1 : Type 0
+After-c_in-arg-1 = tie.After-c_in-arg-1
 
-abbrev pub after-stream :
-    After-stream →
+abbrev pub after-stream-1 :
+    After-stream-1 →
     record { start : Start }
-after-stream c =
+after-stream-1 c =
     let start = c.before.before.before in
     record { start = start }
 
-abbrev pub after-c :
-    After-c →
+abbrev pub after-c-1 :
+    After-c-1 →
     record { start : Start }
-after-c c =
+after-c-1 c =
     let start = c.before.before.before.before in
     record { start = start }
 
-abbrev pub after-c-in-arg :
-    After-c-in-arg →
+abbrev pub after-c_in-arg-1 :
+    After-c_in-arg-1 →
     record { start : Start }
-after-c-in-arg c =
+after-c_in-arg-1 c =
     let start = c.before.before.before.before.before in
     record { start = start }
 
 -- the code's places and needs when this was made, by which `places` follows a change of the code
--- code: Start After-shared-slice-known=shared-slice-known After-slice-known=slice-known After-stream=stream After-c=c After-c-in-arg=c-in-arg
--- code: After-c-in=c-in After-stream2=stream2 After-c2=c2 After-out=out After-slice-known2=slice-known2
--- needs: array-borrow-prefix-stream slice-aggregate-c-in array-borrow-prefix-c slice-aggregate-c-in-2 c-in-requires same-length returns
+-- code: Start After-shared_slice_known-1=shared_slice_known-1 After-slice_known-1=slice_known-1 After-stream-1=stream-1 After-c-1=c-1
+-- code: After-c_in-arg-1=c_in-arg-1 After-c_in=c_in After-stream-2-1=stream-2-1 After-c-2-1=c-2-1 After-out-1=out-1
+-- code: After-slice_known-2-1=slice_known-2-1
+-- needs: slice_bounds-stream-end slice_bounds-c_in-end slice_bounds-c-end slice_bounds-c_in-end-2 c_in-requires shape_of-out returns

@@ -7,14 +7,14 @@ Start = tie.Start
 abbrev pub After-y : Type 0
 After-y = tie.After-y
 
-abbrev pub After-size : Type 0
-After-size = tie.After-size
+abbrev pub After-size-len : Type 0
+After-size-len = tie.After-size-len
 
-abbrev pub After-stream : Type 0
-After-stream = tie.After-stream
+abbrev pub After-stream-1 : Type 0
+After-stream-1 = tie.After-stream-1
 
-abbrev pub After-y-in-arg : Type 0
-After-y-in-arg = tie.After-y-in-arg
+abbrev pub After-y_in-arg-1 : Type 0
+After-y_in-arg-1 = tie.After-y_in-arg-1
 
 abbrev pub after-y :
     After-y →
@@ -23,33 +23,34 @@ after-y c =
     let start = c.before.before.before in
     record { start = start }
 
-abbrev pub after-size :
-    After-size →
+abbrev pub after-size-len :
+    After-size-len →
     record { start : Start; after-y : After-y }
-after-size c =
+after-size-len c =
     let after-y = c.before in
     let start = after-y.before.before.before in
     record { start = start; after-y = after-y }
 
-abbrev pub after-stream :
-    After-stream →
-    record { start : Start; after-y : After-y; after-size : After-size }
-after-stream c =
-    let after-size = c.before in
-    let after-y = after-size.before in
+abbrev pub after-stream-1 :
+    After-stream-1 →
+    record { start : Start; after-y : After-y; after-size-len : After-size-len }
+after-stream-1 c =
+    let after-size-len = c.before in
+    let after-y = after-size-len.before in
     let start = after-y.before.before.before in
-    record { start = start; after-y = after-y; after-size = after-size }
+    record { start = start; after-y = after-y; after-size-len = after-size-len }
 
-abbrev pub after-y-in-arg :
-    After-y-in-arg →
-    record { start : Start; after-y : After-y; after-size : After-size }
-after-y-in-arg c =
-    let after-size = c.before.before in
-    let after-y = after-size.before in
+abbrev pub after-y_in-arg-1 :
+    After-y_in-arg-1 →
+    record { start : Start; after-y : After-y; after-size-len : After-size-len }
+after-y_in-arg-1 c =
+    let after-size-len = c.before.before in
+    let after-y = after-size-len.before in
     let start = after-y.before.before.before in
-    record { start = start; after-y = after-y; after-size = after-size }
+    record { start = start; after-y = after-y; after-size-len = after-size-len }
 
 -- the code's places and needs when this was made, by which `places` follows a change of the code
--- code: Start After-shared-slice-known=shared-slice-known After-slice-known=slice-known After-y=y After-size=size After-stream=stream
--- code: After-y-in-arg=y-in-arg After-y-in=y-in After-stream2=stream2 After-out=out After-slice-known2=slice-known2
--- needs: y-requires size-requires array-borrow-prefix-stream slice-aggregate-y-in y-in-requires same-length returns
+-- code: Start After-shared_slice_known-1=shared_slice_known-1 After-slice_known-1=slice_known-1 After-y=y After-size-len=size-len
+-- code: After-stream-1=stream-1 After-y_in-arg-1=y_in-arg-1 After-y_in=y_in After-stream-2-1=stream-2-1 After-out-1=out-1
+-- code: After-slice_known-2-1=slice_known-2-1
+-- needs: y-requires size-len-requires slice_bounds-stream-end slice_bounds-y_in-end y_in-requires shape_of-out returns

@@ -6,18 +6,18 @@ use borrow.Author.Rules.{rules}
 use Rattle.vectors_test.proofs.bytes.copy.Statement.{statement}
 use Rattle.vectors_test.proofs.bytes.copy.Tie as tie
 
-abbrev invariant-loop : tie.invariant-loop
-invariant-loop from to₀ i₀ to i = (i ≤ length from) × (length to ≡ length to₀)
+abbrev invariant-loop-i : tie.invariant-loop-i
+invariant-loop-i from to₀ i₀ to i = (i ≤ length from) × (length to ≡ length to₀)
 
-abbrev decreases-loop : tie.decreases-loop
-decreases-loop from to₀ i₀ to i = length from - i
+abbrev decreases-loop-i : tie.decreases-loop-i
+decreases-loop-i from to₀ i₀ to i = length from - i
 
 pub copy_spec : {M : Type 1} → statement M
 copy_spec =
     tie.close
     (tie.spec
-    invariant-loop
-    decreases-loop
+    invariant-loop-i
+    decreases-loop-i
     (λ c. search rules)
     (λ c. search rules)
     (λ c. search rules)

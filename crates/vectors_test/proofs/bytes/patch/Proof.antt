@@ -6,18 +6,18 @@ use borrow.Author.Rules.{rules}
 use Rattle.vectors_test.proofs.bytes.patch.Statement.{statement}
 use Rattle.vectors_test.proofs.bytes.patch.Tie as tie
 
-abbrev invariant-loop : tie.invariant-loop
-invariant-loop bytes to₀ i₀ to i = (i ≤ length bytes) × (length to ≡ length to₀)
+abbrev invariant-loop-i : tie.invariant-loop-i
+invariant-loop-i bytes to₀ i₀ to i = (i ≤ length bytes) × (length to ≡ length to₀)
 
-abbrev decreases-loop : tie.decreases-loop
-decreases-loop bytes to₀ i₀ to i = length bytes - i
+abbrev decreases-loop-i : tie.decreases-loop-i
+decreases-loop-i bytes to₀ i₀ to i = length bytes - i
 
 pub patch_spec : {M : Type 1} → statement M
 patch_spec =
     tie.close
     (tie.spec
-    invariant-loop
-    decreases-loop
+    invariant-loop-i
+    decreases-loop-i
     (λ c. search rules)
     (λ c. search rules)
     (λ c. search rules)

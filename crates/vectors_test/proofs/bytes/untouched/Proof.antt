@@ -5,18 +5,18 @@ use borrow.Author.Rules.{rules}
 use Rattle.vectors_test.proofs.bytes.untouched.Statement.{statement}
 use Rattle.vectors_test.proofs.bytes.untouched.Tie as tie
 
-abbrev invariant-loop : tie.invariant-loop
-invariant-loop s i₀ i = i ≤ length s
+abbrev invariant-loop-i : tie.invariant-loop-i
+invariant-loop-i s i₀ i = i ≤ length s
 
-abbrev decreases-loop : tie.decreases-loop
-decreases-loop s i₀ i = length s - i
+abbrev decreases-loop-i : tie.decreases-loop-i
+decreases-loop-i s i₀ i = length s - i
 
 pub untouched_spec : {M : Type 1} → statement M
 untouched_spec =
     tie.close
     (tie.spec
-    invariant-loop
-    decreases-loop
+    invariant-loop-i
+    decreases-loop-i
     (λ c. search rules)
     (λ c. search rules)
     (λ c. search rules)

@@ -7,24 +7,24 @@ use Rattle.workspace.proofs.Memory.{at_most, place_end}
 use borrow.Author.Rules.{rules}
 use Rattle.workspace.proofs.Place.span.Statement.{statement}
 use Rattle.workspace.proofs.Place.span.Tie as tie
-use Places.{after-struct-known, after-struct-known2}
+use Places.{after-struct_known-1, after-struct_known-2-1}
 
 at_requires : tie.Need-at-requires
 at_requires c κs = search rules
 
-mul_start : tie.Need-overflow-mul-start
+mul_start : tie.Need-overflow_mul-start
 mul_start c =
-    let at = after-struct-known c in
-    rw at.after-at.at.ensures (omega (arith, mul-le-mul (at_most at.start.args.self) at.start.pre.n_room))
+    let at = after-struct_known-1 c in
+    rw at.after-at.at.ensures (omega (arith, mul-le-mul (at_most at.start.args.self) at.start.requires.n_room))
 
-add_t4 : tie.Need-overflow-add-t4
+add_t4 : tie.Need-overflow_add-result
 add_t4 c =
-    let at = after-struct-known2 c in
-    rw at.after-at.at.ensures (omega (arith, mul-le-mul (at_most at.start.args.self) at.start.pre.n_room, at.start.pre.n_room))
+    let at = after-struct_known-2-1 c in
+    rw at.after-at.at.ensures (omega (arith, mul-le-mul (at_most at.start.args.self) at.start.requires.n_room, at.start.requires.n_room))
 
 returns : tie.Need-returns
 returns c =
-    let at = after-struct-known2 c in
+    let at = after-struct_known-2-1 c in
     record {
       starts = ap (λ (m : ℕ). m * at.start.args.p.n) at.after-at.at.ensures;
       ends = refl;

@@ -4,20 +4,20 @@ use lib.Seq.{length-take-le}
 use borrow.Author.Rules.{rules}
 use Rattle.workspace.proofs.arithmetic.multiply.Statement.{statement}
 use Rattle.workspace.proofs.arithmetic.multiply.Tie as tie
-use Places.{after-product}
+use Places.{after-product-1}
 
-array_borrow_prefix_product : tie.Need-array-borrow-prefix-product
+array_borrow_prefix_product : tie.Need-slice_bounds-product-end
 array_borrow_prefix_product c = search rules
 
-slice_aggregate_multiply_in : tie.Need-slice-aggregate-multiply-in
-slice_aggregate_multiply_in c = let at = after-product c in sym (length-take-le _ _ at.start.pre.0.0.held)
+slice_aggregate_multiply_in : tie.Need-slice_bounds-multiply_in-end
+slice_aggregate_multiply_in c = let at = after-product-1 c in sym (length-take-le _ _ at.start.requires.0.0.held)
 
-multiply_in_requires : tie.Need-multiply-in-requires
+multiply_in_requires : tie.Need-multiply_in-requires
 multiply_in_requires c κs =
-    let at = after-product c in
-    (at.start.pre.0, (at.start.pre.1.0, at.start.pre.1.1, length-take-le _ _ at.start.pre.0.0.held))
+    let at = after-product-1 c in
+    (at.start.requires.0, (at.start.requires.1.0, at.start.requires.1.1, length-take-le _ _ at.start.requires.0.0.held))
 
-same_length : tie.Need-same-length
+same_length : tie.Need-shape_of-work
 same_length c = search rules
 
 returns : tie.Need-returns

@@ -3,53 +3,53 @@ use Rattle.workspace.proofs.Filling.{lent_is}
 use borrow.Author.Rules.{rules}
 use Rattle.workspace.proofs.arithmetic.product_of.Statement.{statement}
 use Rattle.workspace.proofs.arithmetic.product_of.Tie as tie
-use Places.{after-multiply-arg3, after-slice-known2}
+use Places.{after-multiply-arg-3-1, after-slice_known-2-1}
 
-span_requires : tie.Need-span-requires
+span_requires : tie.Need-span-first-requires
 span_requires c κs = search rules
 
-span_requires_2 : tie.Need-span-requires-2
+span_requires_2 : tie.Need-span-second-requires
 span_requires_2 c κs = search rules
 
-mul_multiply : tie.Need-overflow-mul-multiply
+mul_multiply : tie.Need-offset_bounds-work-a
 mul_multiply c = search rules
 
-sub_multiply : tie.Need-overflow-sub-multiply
+sub_multiply : tie.Need-slice_bounds-multiply-count
 sub_multiply c = search rules
 
-part_multiply_start : tie.Need-slice-bounds-multiply-start
+part_multiply_start : tie.Need-slice_bounds-multiply-start
 part_multiply_start c = search rules
 
-part_multiply_end : tie.Need-slice-bounds-multiply-end
+part_multiply_end : tie.Need-slice_bounds-multiply-end
 part_multiply_end c = search rules
 
-mul_multiply_2 : tie.Need-overflow-mul-multiply-2
+mul_multiply_2 : tie.Need-offset_bounds-work-b
 mul_multiply_2 c = search rules
 
-sub_multiply_2 : tie.Need-overflow-sub-multiply-2
+sub_multiply_2 : tie.Need-slice_bounds-multiply-count-2
 sub_multiply_2 c = search rules
 
-part_multiply_start_2 : tie.Need-slice-bounds-multiply-start-2
+part_multiply_start_2 : tie.Need-slice_bounds-multiply-start-2
 part_multiply_start_2 c = search rules
 
-part_multiply_end_2 : tie.Need-slice-bounds-multiply-end-2
+part_multiply_end_2 : tie.Need-slice_bounds-multiply-end-2
 part_multiply_end_2 c = search rules
 
 multiply_requires : tie.Need-multiply-requires
 multiply_requires c κs =
-    let at = after-multiply-arg3 c in
+    let at = after-multiply-arg-3-1 c in
     let work = at.start.args.work.now in
-    rw (lent_is _ at.start.args.i work at.start.pre.0.1 _ _ at.after-span.span.ensures, lent_is _ at.start.args.j work at.start.pre.0.1 _ _ at.after-span2.span2.ensures)
-    (at.start.pre.0.0, at.start.pre.1)
+    rw (lent_is _ at.start.args.i work at.start.requires.0.1 _ _ at.after-span-first.span-first.ensures, lent_is _ at.start.args.j work at.start.requires.0.1 _ _ at.after-span-second.span-second.ensures)
+    (at.start.requires.0.0, at.start.requires.1)
 
-same_length : tie.Need-same-length
+same_length : tie.Need-shape_of-out
 same_length c = search rules
 
 returns : tie.Need-returns
 returns c =
-    let at = after-slice-known2 c in
+    let at = after-slice_known-2-1 c in
     let work = at.start.args.work.now in
-    rw (lent_is _ at.start.args.i work at.start.pre.0.1 _ _ at.after-span.span.ensures, lent_is _ at.start.args.j work at.start.pre.0.1 _ _ at.after-span2.span2.ensures)
+    rw (lent_is _ at.start.args.i work at.start.requires.0.1 _ _ at.after-span-first.span-first.ensures, lent_is _ at.start.args.j work at.start.requires.0.1 _ _ at.after-span-second.span-second.ensures)
     at at.after-multiply.multiply.ensures
 
 pub product_of_spec : {M : Type 1} → statement M

@@ -5,17 +5,17 @@ use borrow.Author.Rules.{rules}
 use Rattle.workspace.proofs.packed.pack_element.Statement.{statement}
 use Rattle.workspace.proofs.packed.pack_element.Tie as tie
 
-array_borrow_prefix_codes : tie.Need-array-borrow-prefix-codes
+array_borrow_prefix_codes : tie.Need-slice_bounds-codes-end
 array_borrow_prefix_codes c = search rules
 
-slice_aggregate_pack_in : tie.Need-slice-aggregate-pack-in
-slice_aggregate_pack_in c = sym (length-take-le _ _ c.before.before.before.requires.1.1.0)
+slice_aggregate_pack_in : tie.Need-slice_bounds-pack_in-end
+slice_aggregate_pack_in c = sym (length-take-le _ _ c.requires.1.1.0)
 
-pack_in_requires : tie.Need-pack-in-requires
+pack_in_requires : tie.Need-pack_in-requires
 pack_in_requires c κs =
-    (c.before.before.before.before.requires.0, ((c.before.before.before.before.requires.1.0.0, c.before.before.before.before.requires.1.0.1, length-take-le _ _ c.before.before.before.before.requires.1.1.0), (omega (arith, c.before.before.before.before.requires.1.1.0), c.before.before.before.before.requires.1.1.1)))
+    (c.requires.0, ((c.requires.1.0.0, c.requires.1.0.1, length-take-le _ _ c.requires.1.1.0), (omega (arith, c.requires.1.1.0), c.requires.1.1.1)))
 
-same_length : tie.Need-same-length
+same_length : tie.Need-shape_of-out
 same_length c = search rules
 
 returns : tie.Need-returns

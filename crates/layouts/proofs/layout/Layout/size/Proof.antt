@@ -4,11 +4,11 @@ use borrow.Author.Rules.{rules}
 use Rattle.layouts.proofs.layout.Layout.size.Statement.{statement}
 use Rattle.layouts.proofs.layout.Layout.size.Tie as tie
 
-mul_result : tie.Need-overflow-mul-result
-mul_result c = omega (arith, bits_room _ _ c.before.requires.0 c.before.requires.1)
+mul_result : tie.Need-overflow_mul-result
+mul_result c = omega (arith, bits_room _ _ c.requires.0 c.requires.1)
 
-add_result : tie.Need-overflow-add-result
-add_result c = omega (arith, bits_room _ _ c.before.requires.0 c.before.requires.1)
+add_result : tie.Need-overflow_add-result
+add_result c = omega (arith, bits_room _ _ c.requires.0 c.requires.1)
 
 returns : tie.Need-returns
 returns c = search rules

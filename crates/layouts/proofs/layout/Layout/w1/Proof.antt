@@ -4,16 +4,16 @@ use borrow.Author.Rules.{rules}
 use Rattle.layouts.proofs.layout.Layout.w1.Statement.{statement}
 use Rattle.layouts.proofs.layout.Layout.w1.Tie as tie
 
-sub_plain : tie.Need-overflow-sub-plain
+sub_plain : tie.Need-overflow_sub-p
 sub_plain c = search rules
 
-mul_plain : tie.Need-overflow-mul-plain
-mul_plain c = omega (arith, alpha_room c.before.before.args.p c.before.before.requires)
+mul_plain : tie.Need-overflow_mul-p
+mul_plain c = omega (arith, alpha_room c.args.p c.requires)
 
-div_plain : tie.Need-nonzero-div-plain
+div_plain : tie.Need-nonzero_div-plain
 div_plain c = search rules
 
-sub_plain_2 : tie.Need-overflow-sub-plain-2
+sub_plain_2 : tie.Need-overflow_sub-p-2
 sub_plain_2 c = search rules
 
 plain_requires : tie.Need-plain-requires

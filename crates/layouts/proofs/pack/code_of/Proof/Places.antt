@@ -4,52 +4,53 @@ use Rattle.layouts.proofs.pack.code_of.Tie as tie
 abbrev pub Start : Type 0
 Start = tie.Start
 
-abbrev pub After-written : Type 0
-After-written = tie.After-written
+abbrev pub After-written-w : Type 0
+After-written-w = tie.After-written-w
 
-abbrev pub After-struct-known : Type 0
-After-struct-known = tie.After-struct-known
+abbrev pub After-struct_known-1 : Type 0
+After-struct_known-1 = tie.After-struct_known-1
 
-abbrev pub Then1 : Type 0
-Then1 = tie.Then1
+abbrev pub Then-w-l : Type 0
+Then-w-l = tie.Then-w-l
 
-abbrev pub Else1 : Type 0
-Else1 = tie.Else1
+abbrev pub Else-w-l : Type 0
+Else-w-l = tie.Else-w-l
 
-abbrev pub Then2 : Type 0
-Then2 = tie.Then2
+abbrev pub Then-l-w : Type 0
+Then-l-w = tie.Then-l-w
 
-abbrev pub Else2 : Type 0
-Else2 = tie.Else2
+abbrev pub Else-l-w : Type 0
+Else-l-w = tie.Else-l-w
 
-abbrev pub then1 :
-    Then1 →
-    record { start : Start; after-written : After-written; after-struct-known : After-struct-known }
-then1 c =
-    let after-struct-known = c.before in
-    let after-written = after-struct-known.before in
-    let start = after-written.before in
-    record { start = start; after-written = after-written; after-struct-known = after-struct-known }
+abbrev pub then-w-l :
+    Then-w-l →
+    record { start : Start; after-written-w : After-written-w; after-struct_known-1 : After-struct_known-1 }
+then-w-l c =
+    let after-struct_known-1 = c.before in
+    let after-written-w = after-struct_known-1.before in
+    let start = after-written-w.before in
+    record { start = start; after-written-w = after-written-w; after-struct_known-1 = after-struct_known-1 }
 
-abbrev pub then2 :
-    Then2 →
-    record { start : Start; after-written : After-written; after-struct-known : After-struct-known }
-then2 c =
-    let after-struct-known = c.before.before.before in
-    let after-written = after-struct-known.before in
-    let start = after-written.before in
-    record { start = start; after-written = after-written; after-struct-known = after-struct-known }
+abbrev pub then-l-w :
+    Then-l-w →
+    record { start : Start; after-written-w : After-written-w; after-struct_known-1 : After-struct_known-1 }
+then-l-w c =
+    let after-struct_known-1 = c.before.before.before in
+    let after-written-w = after-struct_known-1.before in
+    let start = after-written-w.before in
+    record { start = start; after-written-w = after-written-w; after-struct_known-1 = after-struct_known-1 }
 
-abbrev pub else2 :
-    Else2 →
-    record { start : Start; after-written : After-written; after-struct-known : After-struct-known; else1 : Else1 }
-else2 c =
-    let else1 = c.before.before in
-    let after-struct-known = else1.before in
-    let after-written = after-struct-known.before in
-    let start = after-written.before in
-    record { start = start; after-written = after-written; after-struct-known = after-struct-known; else1 = else1 }
+abbrev pub else-l-w :
+    Else-l-w →
+    record { start : Start; after-written-w : After-written-w; after-struct_known-1 : After-struct_known-1; else-w-l : Else-w-l }
+else-l-w c =
+    let else-w-l = c.before.before in
+    let after-struct_known-1 = else-w-l.before in
+    let after-written-w = after-struct_known-1.before in
+    let start = after-written-w.before in
+    record { start = start; after-written-w = after-written-w; after-struct_known-1 = after-struct_known-1; else-w-l = else-w-l }
 
 -- the code's places and needs when this was made, by which `places` follows a change of the code
--- code: Start After-written=written After-struct-known=struct-known Then1=if1 Else1=if1 After-struct-known2=struct-known2 Then2=if2 Else2=if2
--- needs: written-requires cast-if1 returns cast-if2 returns-2 cast-t6 returns-3
+-- code: Start After-written-w=written-w After-struct_known-1=struct_known-1 Then-w-l=if-w-l Else-w-l=if-w-l After-struct_known-2-1=struct_known-2-1
+-- code: Then-l-w=if-l-w Else-l-w=if-l-w
+-- needs: written-w-requires overflow_cast-l returns-then-w-l overflow_cast-l-2 returns-then-l-w overflow_cast-result returns

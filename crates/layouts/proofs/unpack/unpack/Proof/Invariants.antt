@@ -7,9 +7,9 @@ use Rattle.layouts.specs.Inner.{Readable, remainder}
 use Rattle.layouts.proofs.Scans.{Walked}
 use Rattle.layouts.proofs.unpack.unpack.Tie as tie
 
-abbrev pub InvLoop : tie.invariant-loop
-InvLoop l q packed out₀ i₀ out i =
+abbrev pub invariant-loop-i : tie.invariant-loop-i
+invariant-loop-i l q packed out₀ i₀ out i =
     Readable l q × (length out₀ ≤ 4096) × Walked 0 (allowed l) (remainder l q) (codes l.bits (length out₀) packed) out₀ i out
 
-abbrev pub μ_loop : tie.decreases-loop
-μ_loop l q packed out₀ i₀ out i = length out₀ - i
+abbrev pub decreases-loop-i : tie.decreases-loop-i
+decreases-loop-i l q packed out₀ i₀ out i = length out₀ - i

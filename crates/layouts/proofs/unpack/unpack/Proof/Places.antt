@@ -1,70 +1,66 @@
 -- Made by `places`, from the places of the code: do not edit. A view is what was seen on the way to a place.
 use Rattle.layouts.proofs.unpack.unpack.Tie as tie
-use Rattle.layouts.proofs.unpack.unpack.Proof.Invariants.{InvLoop, μ_loop}
+use Rattle.layouts.proofs.unpack.unpack.Proof.Invariants.{invariant-loop-i, decreases-loop-i}
 
 abbrev pub Start : Type 0
-Start = tie.Start InvLoop μ_loop
+Start = tie.Start invariant-loop-i decreases-loop-i
 
-abbrev pub After-slice-known : Type 0
-After-slice-known = tie.After-slice-known InvLoop μ_loop
+abbrev pub After-slice_known-1 : Type 0
+After-slice_known-1 = tie.After-slice_known-1 invariant-loop-i decreases-loop-i
 
-abbrev pub At-loop : Type 0
-At-loop = tie.At-loop InvLoop μ_loop
+abbrev pub At-loop-i : Type 0
+At-loop-i = tie.At-loop-i invariant-loop-i decreases-loop-i
 
-abbrev pub After-loop : Type 0
-After-loop = tie.After-loop InvLoop μ_loop
+abbrev pub After-loop-i : Type 0
+After-loop-i = tie.After-loop-i invariant-loop-i decreases-loop-i
 
-abbrev pub After-code-at : Type 0
-After-code-at = tie.After-code-at InvLoop μ_loop
+abbrev pub After-code_at : Type 0
+After-code_at = tie.After-code_at invariant-loop-i decreases-loop-i
 
-abbrev pub After-value-of : Type 0
-After-value-of = tie.After-value-of InvLoop μ_loop
+abbrev pub After-value_of : Type 0
+After-value_of = tie.After-value_of invariant-loop-i decreases-loop-i
 
-abbrev pub After-x : Type 0
-After-x = tie.After-x InvLoop μ_loop
+abbrev pub In-Good : Type 0
+In-Good = tie.In-Good invariant-loop-i decreases-loop-i
 
-abbrev pub After-known-told : Type 0
-After-known-told = tie.After-known-told InvLoop μ_loop
+abbrev pub In_default : Type 0
+In_default = tie.In_default invariant-loop-i decreases-loop-i
 
-abbrev pub After-enum-told : Type 0
-After-enum-told = tie.After-enum-told InvLoop μ_loop
-
-abbrev pub after-slice-known :
-    After-slice-known →
+abbrev pub after-slice_known-1 :
+    After-slice_known-1 →
     record { start : Start }
-after-slice-known c =
+after-slice_known-1 c =
     let start = c.before.before in
     record { start = start }
 
-abbrev pub after-loop :
-    After-loop →
-    record { at-loop : At-loop }
-after-loop c =
-    let at-loop = c.before in
-    record { at-loop = at-loop }
+abbrev pub after-loop-i :
+    After-loop-i →
+    record { at-loop-i : At-loop-i }
+after-loop-i c =
+    let at-loop-i = c.before in
+    record { at-loop-i = at-loop-i }
 
-abbrev pub after-known-told :
-    After-known-told →
-    record { at-loop : At-loop; after-code-at : After-code-at; after-value-of : After-value-of; after-x : After-x }
-after-known-told c =
-    let after-x = c.before in
-    let after-value-of = after-x.before.before in
-    let after-code-at = after-value-of.before in
-    let at-loop = after-code-at.before.before in
-    record { at-loop = at-loop; after-code-at = after-code-at; after-value-of = after-value-of; after-x = after-x }
+abbrev pub in-Good :
+    In-Good →
+    record { at-loop-i : At-loop-i; after-code_at : After-code_at; after-value_of : After-value_of }
+in-Good c =
+    let after-value_of = c.before in
+    let after-code_at = after-value_of.before in
+    let at-loop-i = after-code_at.before.before in
+    record { at-loop-i = at-loop-i; after-code_at = after-code_at; after-value_of = after-value_of }
 
-abbrev pub after-enum-told :
-    After-enum-told →
-    record { at-loop : At-loop; after-code-at : After-code-at; after-value-of : After-value-of }
-after-enum-told c =
-    let after-value-of = c.before.before in
-    let after-code-at = after-value-of.before in
-    let at-loop = after-code-at.before.before in
-    record { at-loop = at-loop; after-code-at = after-code-at; after-value-of = after-value-of }
+abbrev pub in_default :
+    In_default →
+    record { at-loop-i : At-loop-i; after-code_at : After-code_at; after-value_of : After-value_of }
+in_default c =
+    let after-value_of = c.before in
+    let after-code_at = after-value_of.before in
+    let at-loop-i = after-code_at.before.before in
+    record { at-loop-i = at-loop-i; after-code_at = after-code_at; after-value_of = after-value_of }
 
 -- the code's places and needs when this was made, by which `places` follows a change of the code
--- code: Start After-shared-slice-known=shared-slice-known After-slice-known=slice-known At-loop=loop In-loop=loop-test After-loop=loop-test
--- code: After-code-at=code-at After-value-of=value-of At-match-keys1=match After-x=x After-known-told=known-told At-match-keys2=match
--- code: After-enum-told=enum-told
--- needs: loop-holds code-at-requires value-of-requires enum-known-x enum-told same-length returns mul-out slice-write-out add-i loop-less loop-again
--- needs: same-length-2 returns-2
+-- code: Start After-shared_slice_known-1=shared_slice_known-1 After-slice_known-1=slice_known-1 At-loop-i=loop-i In-loop-i=loop-i-test
+-- code: After-loop-i=loop-i-test After-code_at=code_at After-value_of=value_of In-Good-1=in-Good-1 In-Good-2=x-1 Walked-In-Good=known_told-1 In-Good
+-- code: In_default-1=in_default-1 Walked-In_default=enum_told-1 In_default
+-- needs: loop-i-init code_at-requires value_of-requires enum_known-x enum_told-1 shape_of-out-in_default returns-in_default offset_bounds-out-i
+-- needs: bounds-out-i overflow_add-i loop-i-smaller loop-i-preserved shape_of-out returns

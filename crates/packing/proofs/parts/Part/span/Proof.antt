@@ -5,35 +5,35 @@ use Rattle.packing.proofs.Standing.{Spans, spans, rank_below, can_sum}
 use borrow.Author.Rules.{rules}
 use Rattle.packing.proofs.parts.Part.span.Statement.{statement}
 use Rattle.packing.proofs.parts.Part.span.Tie as tie
-use Places.{after-lengths2, After-sum, after-sum}
+use Places.{after-lengths-1, After-sum-start, after-sum-start}
 
-spanned : (c : After-sum) → let at = after-sum c in
-    Spans at.start.args.p at.start.args.self at.after-lengths.lengths.result at.after-seat.seat.result.rank c.sum.result
-spanned c = let at = after-sum c in
-    spans at.start.args.p at.start.pre at.start.args.self _ _ _ _ at.after-seat.seat.ensures.0 at.after-lengths.lengths.ensures at.after-seat.seat.ensures.1
-    c.sum.ensures
+spanned : (c : After-sum-start) → let at = after-sum-start c in
+    Spans at.start.args.p at.start.args.self at.after-lengths-lengths.lengths-lengths.result at.after-seat-seat.seat-seat.result.rank c.sum-start.result
+spanned c = let at = after-sum-start c in
+    spans at.start.args.p at.start.requires at.start.args.self _ _ _ _ at.after-seat-seat.seat-seat.ensures.0 at.after-lengths-lengths.lengths-lengths.ensures at.after-seat-seat.seat-seat.ensures.1
+    c.sum-start.ensures
 
-seat_requires : tie.Need-seat-requires
+seat_requires : tie.Need-seat-seat-requires
 seat_requires c κs = search rules
 
-lengths_requires : tie.Need-lengths-requires
+lengths_requires : tie.Need-lengths-lengths-requires
 lengths_requires c κs = search rules
 
-slice_aggregate_sum : tie.Need-slice-aggregate-sum
+slice_aggregate_sum : tie.Need-slice_bounds-sum-end
 slice_aggregate_sum c = search rules
 
-sum_requires : tie.Need-sum-requires
-sum_requires c κs = let at = after-lengths2 c in
-    can_sum at.start.args.p at.start.pre at.after-seat.seat.result.whole at.after-lengths.lengths.result at.after-lengths.lengths.ensures at.after-seat.seat.result.rank
-    (le_of_lt (rank_below at.start.args.self at.after-seat.seat.result.rank at.after-seat.seat.ensures.1))
+sum_requires : tie.Need-sum-start-requires
+sum_requires c κs = let at = after-lengths-1 c in
+    can_sum at.start.args.p at.start.requires at.after-seat-seat.seat-seat.result.whole at.after-lengths-lengths.lengths-lengths.result at.after-lengths-lengths.lengths-lengths.ensures at.after-seat-seat.seat-seat.result.rank
+    (le_of_lt (rank_below at.start.args.self at.after-seat-seat.seat-seat.result.rank at.after-seat-seat.seat-seat.ensures.1))
 
-mul_t11 : tie.Need-overflow-mul-t11
+mul_t11 : tie.Need-offset_bounds-lengths-i
 mul_t11 c = omega (arith, (spanned c).below)
 
-array_read_t14 : tie.Need-array-read-t14
+array_read_t14 : tie.Need-bounds-lengths-i
 array_read_t14 c = omega (arith, (spanned c).below)
 
-add_t15 : tie.Need-overflow-add-t15
+add_t15 : tie.Need-overflow_add-result
 add_t15 c = omega (arith, (spanned c).few)
 
 returns : tie.Need-returns

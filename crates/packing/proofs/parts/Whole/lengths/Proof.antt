@@ -12,51 +12,51 @@ use Rattle.packing.proofs.parts.Whole.lengths.Tie as tie
 row : (p : Set) {v w : Whole} {ms : List ℕ} → v ≡ w → ms ≡ lengths p w → ms ≡ lengths p v
 row p told e = e ∙ ap (lengths p) (sym told)
 
-enum_told : tie.Need-enum-told
+enum_told : tie.Need-enum_told-1
 enum_told c = search rules
 
-field_size_requires : tie.Need-field-size-requires
+field_size_requires : tie.Need-field_size-requires
 field_size_requires c κs = search rules
 
-enum_told_2 : tie.Need-enum-told-2
+enum_told_2 : tie.Need-enum_told-in-SecretKey
 enum_told_2 c = search rules
 
-field_size_requires_2 : tie.Need-field-size-requires-2
+field_size_requires_2 : tie.Need-field_size-requires-in-SecretKey
 field_size_requires_2 c κs = search rules
 
-field_size_requires_3 : tie.Need-field-size-requires-3
+field_size_requires_3 : tie.Need-field_size-requires-in-SecretKey-2
 field_size_requires_3 c κs = search rules
 
-field_size_requires_4 : tie.Need-field-size-requires-4
+field_size_requires_4 : tie.Need-field_size-requires-in-SecretKey-3
 field_size_requires_4 c κs = search rules
 
-enum_told_3 : tie.Need-enum-told-3
+enum_told_3 : tie.Need-enum_told-in-Signature
 enum_told_3 c = search rules
 
-field_size_requires_5 : tie.Need-field-size-requires-5
+field_size_requires_5 : tie.Need-field_size-requires-in-Signature
 field_size_requires_5 c κs = search rules
 
-hint_size_requires : tie.Need-hint-size-requires
+hint_size_requires : tie.Need-hint_size-requires
 hint_size_requires c κs = search rules
 
-enum_told_4 : tie.Need-enum-told-4
+enum_told_4 : tie.Need-enum_told-in-Seeds
 enum_told_4 c = search rules
 
-returns : tie.Need-returns
-returns c = row c.before.before.before.args.p c.before.enum_told.given.1 (λ i. 32 ∷ c.field-size.ensures i ∷ 0 ∷ 0 ∷ 0 ∷ 0 ∷ [])
+returns : tie.Need-returns-in-PublicKey
+returns c = row c.args.p c.enum_told-1.given.1 (λ i. 32 ∷ c.field_size.ensures i ∷ 0 ∷ 0 ∷ 0 ∷ 0 ∷ [])
 
-returns-2 : tie.Need-returns-2
+returns-2 : tie.Need-returns-in-SecretKey
 returns-2 c =
-    row c.before.before.before.before.before.args.p c.before.before.before.enum-told2.given.1
-    (λ i. 32 ∷ 32 ∷ 32 ∷ c.before.before.field-size2.ensures i ∷ c.before.field-size3.ensures i ∷ c.field-size4.ensures i ∷ [])
+    row c.args.p c.enum_told-in-SecretKey-1.given.1
+    (λ i. 32 ∷ 32 ∷ 32 ∷ c.field_size-in-SecretKey.ensures i ∷ c.field_size-in-SecretKey-2.ensures i ∷ c.field_size-in-SecretKey-3.ensures i ∷ [])
 
-returns-3 : tie.Need-returns-3
+returns-3 : tie.Need-returns-in-Signature
 returns-3 c =
-    row c.before.before.before.before.args.p c.before.before.enum-told3.given.1
-    (λ i. 32 ∷ c.before.field-size5.ensures i ∷ c.hint-size.ensures i ∷ 0 ∷ 0 ∷ 0 ∷ [])
+    row c.args.p c.enum_told-in-Signature-1.given.1
+    (λ i. 32 ∷ c.field_size-in-Signature.ensures i ∷ c.hint_size.ensures i ∷ 0 ∷ 0 ∷ 0 ∷ [])
 
-returns-4 : tie.Need-returns-4
-returns-4 c = row c.before.before.args.p c.enum-told4.given.1 refl
+returns-4 : tie.Need-returns-in-Seeds
+returns-4 c = row c.args.p c.enum_told-in-Seeds-1.given.1 refl
 
 pub lengths_spec : {M : Type 1} → statement M
 lengths_spec =

@@ -8,43 +8,40 @@ abbrev pub After-numbers : Type 0
 After-numbers = tie.After-numbers
 
 abbrev pub Made : Type 0
-Made = tie.After-of
+Made = tie.After-of-l
 
-abbrev pub Then1 : Type 0
-Then1 = tie.Then1
+abbrev pub Then-values-ne-N : Type 0
+Then-values-ne-N = tie.Then-values-ne-N
 
-abbrev pub Else1 : Type 0
-Else1 = tie.Else1
+abbrev pub Else-values-ne-N : Type 0
+Else-values-ne-N = tie.Else-values-ne-N
 
 abbrev pub After-size : Type 0
 After-size = tie.After-size
 
-abbrev pub Then2 : Type 0
-Then2 = tie.Then2
+abbrev pub Then-out-size : Type 0
+Then-out-size = tie.Then-out-size
 
-abbrev pub Else2 : Type 0
-Else2 = tie.Else2
+abbrev pub Else-out-size : Type 0
+Else-out-size = tie.Else-out-size
 
-abbrev pub Coded-at : Type 0
-Coded-at = tie.After-codes-of
+abbrev pub CodedAt : Type 0
+CodedAt = tie.After-codes_of-found
 
-abbrev pub After-found : Type 0
-After-found = tie.After-found
+abbrev pub In-BadAt : Type 0
+In-BadAt = tie.In-BadAt
 
-abbrev pub After-known-told : Type 0
-After-known-told = tie.After-known-told
+abbrev pub In_default : Type 0
+In_default = tie.In_default
 
-abbrev pub After-enum-told : Type 0
-After-enum-told = tie.After-enum-told
+abbrev pub After-pack_codes-arg-1 : Type 0
+After-pack_codes-arg-1 = tie.After-pack_codes-arg-1
 
-abbrev pub After-pack-codes-arg : Type 0
-After-pack-codes-arg = tie.After-pack-codes-arg
+abbrev pub After-pack_codes : Type 0
+After-pack_codes = tie.After-pack_codes
 
-abbrev pub After-pack-codes : Type 0
-After-pack-codes = tie.After-pack-codes
-
-abbrev pub After-slice-known2 : Type 0
-After-slice-known2 = tie.After-slice-known2
+abbrev pub After-slice_known-2-1 : Type 0
+After-slice_known-2-1 = tie.After-slice_known-2-1
 
 abbrev pub made :
     Made →
@@ -54,17 +51,17 @@ made c =
     let start = after-numbers.before.before in
     record { start = start; after-numbers = after-numbers }
 
-abbrev pub then1 :
-    Then1 →
+abbrev pub then-values-ne-N :
+    Then-values-ne-N →
     record { start : Start }
-then1 c =
+then-values-ne-N c =
     let start = c.before.before.before.before in
     record { start = start }
 
-abbrev pub else1 :
-    Else1 →
+abbrev pub else-values-ne-N :
+    Else-values-ne-N →
     record { start : Start; made : Made }
-else1 c =
+else-values-ne-N c =
     let made = c.before in
     let start = made.before.before.before in
     record { start = start; made = made }
@@ -77,83 +74,83 @@ after-size c =
     let start = made.before.before.before in
     record { start = start; made = made }
 
-abbrev pub then2 :
-    Then2 →
-    record { start : Start; else1 : Else1; after-size : After-size }
-then2 c =
+abbrev pub then-out-size :
+    Then-out-size →
+    record { start : Start; else-values-ne-N : Else-values-ne-N; after-size : After-size }
+then-out-size c =
     let after-size = c.before in
-    let else1 = after-size.before in
-    let start = else1.before.before.before.before in
-    record { start = start; else1 = else1; after-size = after-size }
+    let else-values-ne-N = after-size.before in
+    let start = else-values-ne-N.before.before.before.before in
+    record { start = start; else-values-ne-N = else-values-ne-N; after-size = after-size }
 
-abbrev pub coded-at :
-    Coded-at →
-    record { start : Start; made : Made; else1 : Else1 }
-coded-at c =
-    let else1 = c.before.before.before.before in
-    let made = else1.before in
+abbrev pub coded_at :
+    CodedAt →
+    record { start : Start; made : Made; else-values-ne-N : Else-values-ne-N }
+coded_at c =
+    let else-values-ne-N = c.before.before.before.before in
+    let made = else-values-ne-N.before in
     let start = made.before.before.before in
-    record { start = start; made = made; else1 = else1 }
+    record { start = start; made = made; else-values-ne-N = else-values-ne-N }
 
-abbrev pub after-known-told :
-    After-known-told →
-    record { start : Start; else1 : Else1; after-size : After-size; else2 : Else2; coded-at : Coded-at; after-found : After-found }
-after-known-told c =
-    let after-found = c.before in
-    let coded-at = after-found.before.before.before in
-    let else2 = coded-at.before.before in
-    let after-size = else2.before in
-    let else1 = after-size.before in
-    let start = else1.before.before.before.before in
-    record { start = start; else1 = else1; after-size = after-size; else2 = else2; coded-at = coded-at; after-found = after-found }
+abbrev pub in-BadAt :
+    In-BadAt →
+    record { start : Start; else-values-ne-N : Else-values-ne-N; after-size : After-size; else-out-size : Else-out-size; coded_at : CodedAt }
+in-BadAt c =
+    let coded_at = c.before.before in
+    let else-out-size = coded_at.before.before in
+    let after-size = else-out-size.before in
+    let else-values-ne-N = after-size.before in
+    let start = else-values-ne-N.before.before.before.before in
+    record { start = start; else-values-ne-N = else-values-ne-N; after-size = after-size; else-out-size = else-out-size; coded_at = coded_at }
 
-abbrev pub after-pack-codes-arg :
-    After-pack-codes-arg →
-    record { made : Made; after-size : After-size; else2 : Else2; coded-at : Coded-at; after-enum-told : After-enum-told }
-after-pack-codes-arg c =
-    let after-enum-told = c.before.before in
-    let coded-at = after-enum-told.before.before.before in
-    let else2 = coded-at.before.before in
-    let after-size = else2.before in
+abbrev pub after-pack_codes-arg-1 :
+    After-pack_codes-arg-1 →
+    record { made : Made; after-size : After-size; else-out-size : Else-out-size; coded_at : CodedAt; in_default : In_default }
+after-pack_codes-arg-1 c =
+    let in_default = c.before.before in
+    let coded_at = in_default.before.before in
+    let else-out-size = coded_at.before.before in
+    let after-size = else-out-size.before in
     let made = after-size.before.before in
-    record { made = made; after-size = after-size; else2 = else2; coded-at = coded-at; after-enum-told = after-enum-told }
+    record { made = made; after-size = after-size; else-out-size = else-out-size; coded_at = coded_at; in_default = in_default }
 
-abbrev pub after-slice-known2 :
-    After-slice-known2 →
+abbrev pub after-slice_known-2-1 :
+    After-slice_known-2-1 →
     record {
       start : Start;
       made : Made;
-      else1 : Else1;
+      else-values-ne-N : Else-values-ne-N;
       after-size : After-size;
-      else2 : Else2;
-      coded-at : Coded-at;
-      after-enum-told : After-enum-told;
-      after-pack-codes : After-pack-codes;
+      else-out-size : Else-out-size;
+      coded_at : CodedAt;
+      in_default : In_default;
+      after-pack_codes : After-pack_codes;
     }
-after-slice-known2 c =
-    let after-pack-codes = c.before.before in
-    let after-enum-told = after-pack-codes.before.before.before in
-    let coded-at = after-enum-told.before.before.before in
-    let else2 = coded-at.before.before in
-    let after-size = else2.before in
-    let else1 = after-size.before in
-    let made = else1.before in
+after-slice_known-2-1 c =
+    let after-pack_codes = c.before.before in
+    let in_default = after-pack_codes.before.before.before in
+    let coded_at = in_default.before.before in
+    let else-out-size = coded_at.before.before in
+    let after-size = else-out-size.before in
+    let else-values-ne-N = after-size.before in
+    let made = else-values-ne-N.before in
     let start = made.before.before.before in
     record {
       start = start;
       made = made;
-      else1 = else1;
+      else-values-ne-N = else-values-ne-N;
       after-size = after-size;
-      else2 = else2;
-      coded-at = coded-at;
-      after-enum-told = after-enum-told;
-      after-pack-codes = after-pack-codes;
+      else-out-size = else-out-size;
+      coded_at = coded_at;
+      in_default = in_default;
+      after-pack_codes = after-pack_codes;
     }
 
 -- the code's places and needs when this was made, by which `places` follows a change of the code
--- code: Start After-slice-known=slice-known After-numbers=numbers After-of=of Then1=if1 Else1=if1 After-size=size Then2=if2 Else2=if2
--- code: After-codes=codes After-codes-of=codes-of After-codes2=codes2 At-match-keys1=match After-found=found After-known-told=known-told
--- code: At-match-keys2=match After-enum-told=enum-told After-codes3=codes3 After-pack-codes-arg=pack-codes-arg After-pack-codes=pack-codes
--- code: After-out=out After-slice-known2=slice-known2
--- needs: numbers-requires of-requires returns size-requires returns-2 slice-aggregate-codes-of codes-of-requires enum-known-found returns-3 enum-told
--- needs: slice-aggregate-pack-codes pack-codes-requires same-length returns-4
+-- code: Start After-slice_known-1=slice_known-1 After-numbers=numbers After-of-l=of-l Then-values-ne-N=if-values-ne-N Else-values-ne-N=if-values-ne-N
+-- code: After-size=size Then-out-size=if-out-size Else-out-size=if-out-size After-codes-1=codes-1 After-codes_of-found=codes_of-found
+-- code: After-codes-2-1=codes-2-1 In-BadAt-1=in-BadAt-1 In-BadAt-2=found-1 Walked-In-BadAt=known_told-1 In-BadAt In_default-1=in_default-1
+-- code: Walked-In_default=enum_told-1 In_default After-codes-3-1=codes-3-1 After-pack_codes-arg-1=pack_codes-arg-1 After-pack_codes=pack_codes
+-- code: After-out-1=out-1 After-slice_known-2-1=slice_known-2-1
+-- needs: numbers-requires of-l-requires returns-then-values-ne-N size-requires returns-then-out-size slice_bounds-codes_of-end
+-- needs: codes_of-found-requires enum_known-found returns-in-BadAt enum_told-1 slice_bounds-pack_codes-end pack_codes-requires shape_of-out returns

@@ -8,46 +8,43 @@ abbrev pub After-numbers : Type 0
 After-numbers = tie.After-numbers
 
 abbrev pub Made : Type 0
-Made = tie.After-of
+Made = tie.After-of-l
 
 abbrev pub After-size : Type 0
 After-size = tie.After-size
 
-abbrev pub Then1 : Type 0
-Then1 = tie.Then1
+abbrev pub Then-packed-size : Type 0
+Then-packed-size = tie.Then-packed-size
 
-abbrev pub Else1 : Type 0
-Else1 = tie.Else1
+abbrev pub Else-packed-size : Type 0
+Else-packed-size = tie.Else-packed-size
 
-abbrev pub Then2 : Type 0
-Then2 = tie.Then2
+abbrev pub Then-out-ne-N : Type 0
+Then-out-ne-N = tie.Then-out-ne-N
 
-abbrev pub Else2 : Type 0
-Else2 = tie.Else2
+abbrev pub Else-out-ne-N : Type 0
+Else-out-ne-N = tie.Else-out-ne-N
 
-abbrev pub After-values : Type 0
-After-values = tie.After-values
+abbrev pub After-values-1 : Type 0
+After-values-1 = tie.After-values-1
 
-abbrev pub Read-at : Type 0
-Read-at = tie.After-unpack
+abbrev pub ReadAt : Type 0
+ReadAt = tie.After-unpack-found
 
-abbrev pub After-found : Type 0
-After-found = tie.After-found
+abbrev pub In-BadAt : Type 0
+In-BadAt = tie.In-BadAt
 
-abbrev pub After-known-told : Type 0
-After-known-told = tie.After-known-told
+abbrev pub In_default : Type 0
+In_default = tie.In_default
 
-abbrev pub After-enum-told : Type 0
-After-enum-told = tie.After-enum-told
+abbrev pub After-store_centred-arg-1 : Type 0
+After-store_centred-arg-1 = tie.After-store_centred-arg-1
 
-abbrev pub After-store-centred-arg : Type 0
-After-store-centred-arg = tie.After-store-centred-arg
+abbrev pub After-store_centred : Type 0
+After-store_centred = tie.After-store_centred
 
-abbrev pub After-store-centred : Type 0
-After-store-centred = tie.After-store-centred
-
-abbrev pub After-out : Type 0
-After-out = tie.After-out
+abbrev pub After-out-1 : Type 0
+After-out-1 = tie.After-out-1
 
 abbrev pub made :
     Made →
@@ -65,95 +62,95 @@ after-size c =
     let start = made.before.before.before in
     record { start = start; made = made }
 
-abbrev pub then1 :
-    Then1 →
+abbrev pub then-packed-size :
+    Then-packed-size →
     record { start : Start; after-size : After-size }
-then1 c =
+then-packed-size c =
     let after-size = c.before in
     let start = after-size.before.before.before.before in
     record { start = start; after-size = after-size }
 
-abbrev pub then2 :
-    Then2 →
-    record { start : Start; after-size : After-size; else1 : Else1 }
-then2 c =
-    let else1 = c.before in
-    let after-size = else1.before in
+abbrev pub then-out-ne-N :
+    Then-out-ne-N →
+    record { start : Start; after-size : After-size; else-packed-size : Else-packed-size }
+then-out-ne-N c =
+    let else-packed-size = c.before in
+    let after-size = else-packed-size.before in
     let start = after-size.before.before.before.before in
-    record { start = start; after-size = after-size; else1 = else1 }
+    record { start = start; after-size = after-size; else-packed-size = else-packed-size }
 
-abbrev pub after-values :
-    After-values →
-    record { start : Start; made : Made; after-size : After-size; else1 : Else1 }
-after-values c =
-    let else1 = c.before.before in
-    let after-size = else1.before in
+abbrev pub after-values-1 :
+    After-values-1 →
+    record { start : Start; made : Made; after-size : After-size; else-packed-size : Else-packed-size }
+after-values-1 c =
+    let else-packed-size = c.before.before in
+    let after-size = else-packed-size.before in
     let made = after-size.before in
     let start = made.before.before.before in
-    record { start = start; made = made; after-size = after-size; else1 = else1 }
+    record { start = start; made = made; after-size = after-size; else-packed-size = else-packed-size }
 
 abbrev pub read_at :
-    Read-at →
+    ReadAt →
     record { start : Start; made : Made }
 read_at c =
     let made = c.before.before.before.before.before in
     let start = made.before.before.before in
     record { start = start; made = made }
 
-abbrev pub after-known-told :
-    After-known-told →
-    record { start : Start; after-size : After-size; else1 : Else1; else2 : Else2; read_at : Read-at; after-found : After-found }
-after-known-told c =
-    let after-found = c.before in
-    let read_at = after-found.before.before.before in
-    let else2 = read_at.before.before in
-    let else1 = else2.before in
-    let after-size = else1.before in
+abbrev pub in-BadAt :
+    In-BadAt →
+    record { start : Start; after-size : After-size; else-packed-size : Else-packed-size; else-out-ne-N : Else-out-ne-N; read_at : ReadAt }
+in-BadAt c =
+    let read_at = c.before.before in
+    let else-out-ne-N = read_at.before.before in
+    let else-packed-size = else-out-ne-N.before in
+    let after-size = else-packed-size.before in
     let start = after-size.before.before.before.before in
-    record { start = start; after-size = after-size; else1 = else1; else2 = else2; read_at = read_at; after-found = after-found }
+    record { start = start; after-size = after-size; else-packed-size = else-packed-size; else-out-ne-N = else-out-ne-N; read_at = read_at }
 
-abbrev pub after-store-centred-arg :
-    After-store-centred-arg →
-    record { else2 : Else2; read_at : Read-at; after-enum-told : After-enum-told }
-after-store-centred-arg c =
-    let after-enum-told = c.before.before in
-    let read_at = after-enum-told.before.before.before in
-    let else2 = read_at.before.before in
-    record { else2 = else2; read_at = read_at; after-enum-told = after-enum-told }
+abbrev pub after-store_centred-arg-1 :
+    After-store_centred-arg-1 →
+    record { else-out-ne-N : Else-out-ne-N; read_at : ReadAt; in_default : In_default }
+after-store_centred-arg-1 c =
+    let in_default = c.before.before in
+    let read_at = in_default.before.before in
+    let else-out-ne-N = read_at.before.before in
+    record { else-out-ne-N = else-out-ne-N; read_at = read_at; in_default = in_default }
 
-abbrev pub after-out :
-    After-out →
+abbrev pub after-out-1 :
+    After-out-1 →
     record {
       start : Start;
       after-size : After-size;
-      else1 : Else1;
-      else2 : Else2;
-      read_at : Read-at;
-      after-enum-told : After-enum-told;
-      after-store-centred : After-store-centred;
+      else-packed-size : Else-packed-size;
+      else-out-ne-N : Else-out-ne-N;
+      read_at : ReadAt;
+      in_default : In_default;
+      after-store_centred : After-store_centred;
     }
-after-out c =
-    let after-store-centred = c.before in
-    let after-enum-told = after-store-centred.before.before.before in
-    let read_at = after-enum-told.before.before.before in
-    let else2 = read_at.before.before in
-    let else1 = else2.before in
-    let after-size = else1.before in
+after-out-1 c =
+    let after-store_centred = c.before in
+    let in_default = after-store_centred.before.before.before in
+    let read_at = in_default.before.before in
+    let else-out-ne-N = read_at.before.before in
+    let else-packed-size = else-out-ne-N.before in
+    let after-size = else-packed-size.before in
     let start = after-size.before.before.before.before in
     record {
       start = start;
       after-size = after-size;
-      else1 = else1;
-      else2 = else2;
+      else-packed-size = else-packed-size;
+      else-out-ne-N = else-out-ne-N;
       read_at = read_at;
-      after-enum-told = after-enum-told;
-      after-store-centred = after-store-centred;
+      in_default = in_default;
+      after-store_centred = after-store_centred;
     }
 
 -- the code's places and needs when this was made, by which `places` follows a change of the code
--- code: Start After-shared-slice-known=shared-slice-known After-numbers=numbers After-of=of After-size=size Then1=if1 Else1=if1 Then2=if2 Else2=if2
--- code: After-values=values After-unpack=unpack After-values2=values2 At-match-keys1=match After-found=found After-known-told=known-told
--- code: At-match-keys2=match After-enum-told=enum-told After-values3=values3 After-store-centred-arg=store-centred-arg
--- code: After-store-centred=store-centred After-out=out
--- needs: numbers-requires of-requires size-requires returns returns-2 slice-aggregate-unpack unpack-requires enum-known-found returns-3 enum-told
--- needs: slice-aggregate-store-centred store-centred-requires same-length returns-4
+-- code: Start After-shared_slice_known-1=shared_slice_known-1 After-numbers=numbers After-of-l=of-l After-size=size Then-packed-size=if-packed-size
+-- code: Else-packed-size=if-packed-size Then-out-ne-N=if-out-ne-N Else-out-ne-N=if-out-ne-N After-values-1=values-1 After-unpack-found=unpack-found
+-- code: After-values-2-1=values-2-1 In-BadAt-1=in-BadAt-1 In-BadAt-2=found-1 Walked-In-BadAt=known_told-1 In-BadAt In_default-1=in_default-1
+-- code: Walked-In_default=enum_told-1 In_default After-values-3-1=values-3-1 After-store_centred-arg-1=store_centred-arg-1
+-- code: After-store_centred=store_centred After-out-1=out-1
+-- needs: numbers-requires of-l-requires size-requires returns-then-packed-size returns-then-out-ne-N slice_bounds-unpack-end unpack-found-requires
+-- needs: enum_known-found returns-in-BadAt enum_told-1 slice_bounds-store_centred-end store_centred-requires shape_of-out returns

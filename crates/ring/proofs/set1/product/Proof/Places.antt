@@ -4,112 +4,112 @@ use Rattle.ring.proofs.set1.product.Tie as tie
 abbrev pub Start : Type 0
 Start = tie.Start
 
-abbrev pub First-right : Type 0
-First-right = tie.Else1
+abbrev pub FirstRight : Type 0
+FirstRight = tie.Else-first-ne-N
 
-abbrev pub Second-wrong : Type 0
-Second-wrong = tie.Then2
+abbrev pub SecondWrong : Type 0
+SecondWrong = tie.Then-second-ne-N
 
-abbrev pub Second-right : Type 0
-Second-right = tie.Else2
+abbrev pub SecondRight : Type 0
+SecondRight = tie.Else-second-ne-N
 
-abbrev pub Out-wrong : Type 0
-Out-wrong = tie.Then3
+abbrev pub OutWrong : Type 0
+OutWrong = tie.Then-out-ne-N
 
-abbrev pub Out-right : Type 0
-Out-right = tie.Else3
+abbrev pub OutRight : Type 0
+OutRight = tie.Else-out-ne-N
 
-abbrev pub First-reduced : Type 0
-First-reduced = tie.After-reduce-all
+abbrev pub FirstReduced : Type 0
+FirstReduced = tie.After-reduce_all
 
-abbrev pub Second-reduced : Type 0
-Second-reduced = tie.After-reduce-all2
+abbrev pub SecondReduced : Type 0
+SecondReduced = tie.After-reduce_all-2
 
 abbrev pub Numbered : Type 0
 Numbered = tie.After-numbers
 
-abbrev pub To-multiply : Type 0
-To-multiply = tie.After-c
+abbrev pub ToMultiply : Type 0
+ToMultiply = tie.After-c-1
 
 abbrev pub Multiplied : Type 0
 Multiplied = tie.After-multiply
 
-abbrev pub To-store : Type 0
-To-store = tie.After-store-plain-arg
+abbrev pub ToStore : Type 0
+ToStore = tie.After-store_plain-arg-1
 
-abbrev pub Stored-plain : Type 0
-Stored-plain = tie.After-store-plain
+abbrev pub StoredPlain : Type 0
+StoredPlain = tie.After-store_plain
 
 abbrev pub Done : Type 0
-Done = tie.After-out
+Done = tie.After-out-1
 
 abbrev pub second_wrong :
-    Second-wrong →
-    record { first-right : First-right }
+    SecondWrong →
+    record { first_right : FirstRight }
 second_wrong c =
-    let first-right = c.before in
-    record { first-right = first-right }
+    let first_right = c.before in
+    record { first_right = first_right }
 
-abbrev pub out-wrong :
-    Out-wrong →
-    record { first-right : First-right; second-right : Second-right }
-out-wrong c =
-    let second-right = c.before in
-    let first-right = second-right.before in
-    record { first-right = first-right; second-right = second-right }
+abbrev pub out_wrong :
+    OutWrong →
+    record { first_right : FirstRight; second_right : SecondRight }
+out_wrong c =
+    let second_right = c.before in
+    let first_right = second_right.before in
+    record { first_right = first_right; second_right = second_right }
 
-abbrev pub to-multiply :
-    To-multiply →
+abbrev pub to_multiply :
+    ToMultiply →
     record {
       start : Start;
-      first-right : First-right;
-      second-right : Second-right;
-      first_reduced : First-reduced;
-      second_reduced : Second-reduced;
+      first_right : FirstRight;
+      second_right : SecondRight;
+      first_reduced : FirstReduced;
+      second_reduced : SecondReduced;
       numbered : Numbered;
     }
-to-multiply c =
+to_multiply c =
     let numbered = c.before.before.before in
     let second_reduced = numbered.before.before in
     let first_reduced = second_reduced.before.before.before in
-    let second-right = first_reduced.before.before.before in
-    let first-right = second-right.before in
-    let start = first-right.before in
+    let second_right = first_reduced.before.before.before in
+    let first_right = second_right.before in
+    let start = first_right.before in
     record {
       start = start;
-      first-right = first-right;
-      second-right = second-right;
+      first_right = first_right;
+      second_right = second_right;
       first_reduced = first_reduced;
       second_reduced = second_reduced;
       numbered = numbered;
     }
 
-abbrev pub to-store :
-    To-store →
+abbrev pub to_store :
+    ToStore →
     record {
       start : Start;
-      first-right : First-right;
-      second-right : Second-right;
-      out-right : Out-right;
-      first_reduced : First-reduced;
-      second_reduced : Second-reduced;
+      first_right : FirstRight;
+      second_right : SecondRight;
+      out_right : OutRight;
+      first_reduced : FirstReduced;
+      second_reduced : SecondReduced;
       numbered : Numbered;
       multiplied : Multiplied;
     }
-to-store c =
+to_store c =
     let multiplied = c.before.before.before in
     let numbered = multiplied.before.before.before.before in
     let second_reduced = numbered.before.before in
     let first_reduced = second_reduced.before.before.before in
-    let out-right = first_reduced.before.before in
-    let second-right = out-right.before in
-    let first-right = second-right.before in
-    let start = first-right.before in
+    let out_right = first_reduced.before.before in
+    let second_right = out_right.before in
+    let first_right = second_right.before in
+    let start = first_right.before in
     record {
       start = start;
-      first-right = first-right;
-      second-right = second-right;
-      out-right = out-right;
+      first_right = first_right;
+      second_right = second_right;
+      out_right = out_right;
       first_reduced = first_reduced;
       second_reduced = second_reduced;
       numbered = numbered;
@@ -120,41 +120,43 @@ abbrev pub done :
     Done →
     record {
       start : Start;
-      first-right : First-right;
-      second-right : Second-right;
-      out-right : Out-right;
-      first_reduced : First-reduced;
-      second_reduced : Second-reduced;
+      first_right : FirstRight;
+      second_right : SecondRight;
+      out_right : OutRight;
+      first_reduced : FirstReduced;
+      second_reduced : SecondReduced;
       numbered : Numbered;
       multiplied : Multiplied;
-      stored-plain : Stored-plain;
+      stored_plain : StoredPlain;
     }
 done c =
-    let stored-plain = c.before in
-    let multiplied = stored-plain.before.before.before.before in
+    let stored_plain = c.before in
+    let multiplied = stored_plain.before.before.before.before in
     let numbered = multiplied.before.before.before.before in
     let second_reduced = numbered.before.before in
     let first_reduced = second_reduced.before.before.before in
-    let out-right = first_reduced.before.before in
-    let second-right = out-right.before in
-    let first-right = second-right.before in
-    let start = first-right.before in
+    let out_right = first_reduced.before.before in
+    let second_right = out_right.before in
+    let first_right = second_right.before in
+    let start = first_right.before in
     record {
       start = start;
-      first-right = first-right;
-      second-right = second-right;
-      out-right = out-right;
+      first_right = first_right;
+      second_right = second_right;
+      out_right = out_right;
       first_reduced = first_reduced;
       second_reduced = second_reduced;
       numbered = numbered;
       multiplied = multiplied;
-      stored-plain = stored-plain;
+      stored_plain = stored_plain;
     }
 
 -- the code's places and needs when this was made, by which `places` follows a change of the code
--- code: Start Then1=if1 Else1=if1 Then2=if2 Else2=if2 Then3=if3 Else3=if3 After-a=a After-reduce-all=reduce-all After-a2=a2 After-b=b
--- code: After-reduce-all2=reduce-all2 After-b2=b2 After-numbers=numbers After-a3=a3 After-b3=b3 After-c=c After-multiply=multiply After-c2=c2
--- code: After-c3=c3 After-store-plain-arg=store-plain-arg After-store-plain=store-plain After-out=out
--- needs: returns returns-2 returns-3 slice-aggregate-reduce-all reduce-all-requires slice-aggregate-reduce-all-2 reduce-all-requires-2
--- needs: numbers-requires slice-aggregate-multiply slice-aggregate-multiply-2 slice-aggregate-multiply-3 multiply-requires
--- needs: slice-aggregate-store-plain store-plain-requires same-length returns-4
+-- code: Start Then-first-ne-N=if-first-ne-N Else-first-ne-N=if-first-ne-N Then-second-ne-N=if-second-ne-N Else-second-ne-N=if-second-ne-N
+-- code: Then-out-ne-N=if-out-ne-N Else-out-ne-N=if-out-ne-N After-a-1=a-1 After-reduce_all=reduce_all After-a-2-1=a-2-1 After-b-1=b-1
+-- code: After-reduce_all-2=reduce_all-2 After-b-2-1=b-2-1 After-numbers=numbers After-a-3-1=a-3-1 After-b-3-1=b-3-1 After-c-1=c-1
+-- code: After-multiply=multiply After-c-2-1=c-2-1 After-c-3-1=c-3-1 After-store_plain-arg-1=store_plain-arg-1 After-store_plain=store_plain
+-- code: After-out-1=out-1
+-- needs: returns-then-first-ne-N returns-then-second-ne-N returns-then-out-ne-N slice_bounds-reduce_all-end reduce_all-requires
+-- needs: slice_bounds-reduce_all-end-2 reduce_all-requires-2 numbers-requires slice_bounds-multiply-end slice_bounds-multiply-end-2
+-- needs: slice_bounds-multiply-end-3 multiply-requires slice_bounds-store_plain-end store_plain-requires shape_of-out returns

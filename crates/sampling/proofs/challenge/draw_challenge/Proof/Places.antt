@@ -1,144 +1,160 @@
 -- Made by `places`, from the places of the code: do not edit. A view is what was seen on the way to a place.
 use Rattle.sampling.proofs.challenge.draw_challenge.Tie as tie
-use Rattle.sampling.proofs.challenge.draw_challenge.Proof.Invariants.{InvLoop, μ_loop}
+use Rattle.sampling.proofs.challenge.draw_challenge.Proof.Invariants.{invariant-loop-place, decreases-loop-place}
 
 abbrev pub Start : Type 0
-Start = tie.Start InvLoop μ_loop
+Start = tie.Start invariant-loop-place decreases-loop-place
 
-abbrev pub After-shared-slice-known : Type 0
-After-shared-slice-known = tie.After-shared-slice-known InvLoop μ_loop
+abbrev pub After-shared_slice_known-1 : Type 0
+After-shared_slice_known-1 = tie.After-shared_slice_known-1 invariant-loop-place decreases-loop-place
 
-abbrev pub After-clear-signed : Type 0
-After-clear-signed = tie.After-clear-signed InvLoop μ_loop
+abbrev pub After-clear_signed : Type 0
+After-clear_signed = tie.After-clear_signed invariant-loop-place decreases-loop-place
 
-abbrev pub After-struct-known : Type 0
-After-struct-known = tie.After-struct-known InvLoop μ_loop
+abbrev pub After-struct_known-1 : Type 0
+After-struct_known-1 = tie.After-struct_known-1 invariant-loop-place decreases-loop-place
 
-abbrev pub After-sign-bits : Type 0
-After-sign-bits = tie.After-sign-bits InvLoop μ_loop
+abbrev pub After-sign_bits-signs : Type 0
+After-sign_bits-signs = tie.After-sign_bits-signs invariant-loop-place decreases-loop-place
 
-abbrev pub At-loop : Type 0
-At-loop = tie.At-loop InvLoop μ_loop
+abbrev pub At-loop-place : Type 0
+At-loop-place = tie.At-loop-place invariant-loop-place decreases-loop-place
 
-abbrev pub Then1 : Type 0
-Then1 = tie.Then1 InvLoop μ_loop
+abbrev pub In-loop-place : Type 0
+In-loop-place = tie.In-loop-place invariant-loop-place decreases-loop-place
 
-abbrev pub Else1 : Type 0
-Else1 = tie.Else1 InvLoop μ_loop
+abbrev pub After-loop-place : Type 0
+After-loop-place = tie.After-loop-place invariant-loop-place decreases-loop-place
 
-abbrev pub Then2 : Type 0
-Then2 = tie.Then2 InvLoop μ_loop
+abbrev pub Then-stream-end : Type 0
+Then-stream-end = tie.Then-stream-end invariant-loop-place decreases-loop-place
 
-abbrev pub Else2 : Type 0
-Else2 = tie.Else2 InvLoop μ_loop
+abbrev pub Else-stream-end : Type 0
+Else-stream-end = tie.Else-stream-end invariant-loop-place decreases-loop-place
 
-abbrev pub After-draw : Type 0
-After-draw = tie.After-draw InvLoop μ_loop
+abbrev pub After-draw-j : Type 0
+After-draw-j = tie.After-draw-j invariant-loop-place decreases-loop-place
 
 abbrev pub After-sign : Type 0
-After-sign = tie.After-sign InvLoop μ_loop
+After-sign = tie.After-sign invariant-loop-place decreases-loop-place
 
 abbrev pub After-put : Type 0
-After-put = tie.After-put InvLoop μ_loop
+After-put = tie.After-put invariant-loop-place decreases-loop-place
 
-abbrev pub After-out2 : Type 0
-After-out2 = tie.After-out2 InvLoop μ_loop
+abbrev pub After-out-then-j-past-1 : Type 0
+After-out-then-j-past-1 = tie.After-out-then-j-past-1 invariant-loop-place decreases-loop-place
 
-abbrev pub Else3 : Type 0
-Else3 = tie.Else3 InvLoop μ_loop
+abbrev pub Else-j-past : Type 0
+Else-j-past = tie.Else-j-past invariant-loop-place decreases-loop-place
 
-abbrev pub after-struct-known :
-    After-struct-known →
+abbrev pub after-struct_known-1 :
+    After-struct_known-1 →
     record { start : Start }
-after-struct-known c =
+after-struct_known-1 c =
     let start = c.before.before.before.before.before in
     record { start = start }
 
-abbrev pub after-sign-bits :
-    After-sign-bits →
-    record { start : Start; after-clear-signed : After-clear-signed }
-after-sign-bits c =
-    let after-clear-signed = c.before.before.before.before in
-    let start = after-clear-signed.before.before.before in
-    record { start = start; after-clear-signed = after-clear-signed }
+abbrev pub after-sign_bits-signs :
+    After-sign_bits-signs →
+    record { start : Start; after-clear_signed : After-clear_signed }
+after-sign_bits-signs c =
+    let after-clear_signed = c.before.before.before.before in
+    let start = after-clear_signed.before.before.before in
+    record { start = start; after-clear_signed = after-clear_signed }
 
-abbrev pub else1 :
-    Else1 →
-    record { at-loop : At-loop }
-else1 c =
-    let at-loop = c.before.before in
-    record { at-loop = at-loop }
+abbrev pub after-loop-place :
+    After-loop-place →
+    record { at-loop-place : At-loop-place }
+after-loop-place c =
+    let at-loop-place = c.before.before in
+    record { at-loop-place = at-loop-place }
 
-abbrev pub then2 :
-    Then2 →
-    record { at-loop : At-loop; then1 : Then1 }
-then2 c =
-    let then1 = c.before in
-    let at-loop = then1.before.before in
-    record { at-loop = at-loop; then1 = then1 }
+abbrev pub then-stream-end :
+    Then-stream-end →
+    record { at-loop-place : At-loop-place; in-loop-place : In-loop-place }
+then-stream-end c =
+    let in-loop-place = c.before in
+    let at-loop-place = in-loop-place.before.before in
+    record { at-loop-place = at-loop-place; in-loop-place = in-loop-place }
 
-abbrev pub else2 :
-    Else2 →
+abbrev pub else-stream-end :
+    Else-stream-end →
     record { start : Start }
-else2 c =
+else-stream-end c =
     let start = c.before.before.before.before.before.before.before.before.before.before.before in
     record { start = start }
 
 abbrev pub after-sign :
     After-sign →
-    record { at-loop : At-loop }
+    record { at-loop-place : At-loop-place }
 after-sign c =
-    let at-loop = c.before.before.before.before.before.before.before in
-    record { at-loop = at-loop }
+    let at-loop-place = c.before.before.before.before.before.before.before in
+    record { at-loop-place = at-loop-place }
 
-abbrev pub after-out2 :
-    After-out2 →
+abbrev pub after-out-then-j-past-1 :
+    After-out-then-j-past-1 →
     record {
       start : Start;
-      after-shared-slice-known : After-shared-slice-known;
-      at-loop : At-loop;
-      then1 : Then1;
-      else2 : Else2;
-      after-draw : After-draw;
+      after-shared_slice_known-1 : After-shared_slice_known-1;
+      at-loop-place : At-loop-place;
+      in-loop-place : In-loop-place;
+      else-stream-end : Else-stream-end;
+      after-draw-j : After-draw-j;
       after-sign : After-sign;
       after-put : After-put;
     }
-after-out2 c =
+after-out-then-j-past-1 c =
     let after-put = c.before in
     let after-sign = after-put.before in
-    let after-draw = after-sign.before.before.before in
-    let else2 = after-draw.before in
-    let then1 = else2.before in
-    let at-loop = then1.before.before in
-    let after-shared-slice-known = at-loop.before.before.before.before.before.before.before in
-    let start = after-shared-slice-known.before in
+    let after-draw-j = after-sign.before.before.before in
+    let else-stream-end = after-draw-j.before in
+    let in-loop-place = else-stream-end.before in
+    let at-loop-place = in-loop-place.before.before in
+    let after-shared_slice_known-1 = at-loop-place.before.before.before.before.before.before.before in
+    let start = after-shared_slice_known-1.before in
     record {
       start = start;
-      after-shared-slice-known = after-shared-slice-known;
-      at-loop = at-loop;
-      then1 = then1;
-      else2 = else2;
-      after-draw = after-draw;
+      after-shared_slice_known-1 = after-shared_slice_known-1;
+      at-loop-place = at-loop-place;
+      in-loop-place = in-loop-place;
+      else-stream-end = else-stream-end;
+      after-draw-j = after-draw-j;
       after-sign = after-sign;
       after-put = after-put;
     }
 
-abbrev pub else3 :
-    Else3 →
-    record { start : Start; after-shared-slice-known : After-shared-slice-known; at-loop : At-loop; then1 : Then1; else2 : Else2; after-draw : After-draw }
-else3 c =
-    let after-draw = c.before in
-    let else2 = after-draw.before in
-    let then1 = else2.before in
-    let at-loop = then1.before.before in
-    let after-shared-slice-known = at-loop.before.before.before.before.before.before.before in
-    let start = after-shared-slice-known.before in
-    record { start = start; after-shared-slice-known = after-shared-slice-known; at-loop = at-loop; then1 = then1; else2 = else2; after-draw = after-draw }
+abbrev pub else-j-past :
+    Else-j-past →
+    record {
+      start : Start;
+      after-shared_slice_known-1 : After-shared_slice_known-1;
+      at-loop-place : At-loop-place;
+      in-loop-place : In-loop-place;
+      else-stream-end : Else-stream-end;
+      after-draw-j : After-draw-j;
+    }
+else-j-past c =
+    let after-draw-j = c.before in
+    let else-stream-end = after-draw-j.before in
+    let in-loop-place = else-stream-end.before in
+    let at-loop-place = in-loop-place.before.before in
+    let after-shared_slice_known-1 = at-loop-place.before.before.before.before.before.before.before in
+    let start = after-shared_slice_known-1.before in
+    record {
+      start = start;
+      after-shared_slice_known-1 = after-shared_slice_known-1;
+      at-loop-place = at-loop-place;
+      in-loop-place = in-loop-place;
+      else-stream-end = else-stream-end;
+      after-draw-j = after-draw-j;
+    }
 
 -- the code's places and needs when this was made, by which `places` follows a change of the code
--- code: Start After-shared-slice-known=shared-slice-known After-clear-signed-arg=clear-signed-arg After-clear-signed=clear-signed After-out=out
--- code: After-struct-known=struct-known After-struct-known2=struct-known2 After-sign-bits=sign-bits At-loop=loop After-struct-known3=struct-known3
--- code: Then1=if1 Else1=if1 Then2=if2 Else2=if2 After-draw=draw Then3=if3 After-put-arg=put-arg After-sign=sign After-put=put After-out2=out2
--- code: Else3=if3
--- needs: clear-signed-requires cast-wide cast-power shl-power sub-place sign-bits-requires loop-holds add-end add-past same-length returns
--- needs: draw-requires sign-requires put-requires loop-less loop-again loop-less-2 loop-again-2 same-length-2 returns-2
+-- code: Start After-shared_slice_known-1=shared_slice_known-1 After-clear_signed-arg-1=clear_signed-arg-1 After-clear_signed=clear_signed
+-- code: After-out-1=out-1 After-struct_known-1=struct_known-1 After-struct_known-2-1=struct_known-2-1 After-sign_bits-signs=sign_bits-signs
+-- code: At-loop-place=loop-place After-struct_known-in-loop-place-1=struct_known-in-loop-place-1 In-loop-place=loop-place-test
+-- code: After-loop-place=loop-place-test Then-stream-end=if-stream-end Else-stream-end=if-stream-end After-draw-j=draw-j Then-j-past=if-j-past
+-- code: After-put-arg-1=put-arg-1 After-sign=sign After-put=put After-out-then-j-past-1=out-then-j-past-1 Else-j-past=if-j-past
+-- needs: clear_signed-requires overflow_cast-wide overflow_cast-power overflow_shl-power overflow_sub-place sign_bits-signs-requires loop-place-init
+-- needs: overflow_add-end overflow_add-past shape_of-out-then-stream-end returns-then-stream-end draw-j-requires sign-requires put-requires
+-- needs: loop-place-smaller-then-j-past loop-place-preserved-then-j-past loop-place-smaller loop-place-preserved shape_of-out returns

@@ -5,8 +5,8 @@ use Rattle.sets.specs.Good.{Good}
 use Rattle.sampling.proofs.Going.{GoingA}
 use Rattle.sampling.proofs.element.draw_a.Tie as tie
 
-abbrev pub InvLoop : tie.invariant-loop
-InvLoop p stream out₀ found₀ at₀ out found at = Good p × GoingA p stream out found at
+abbrev pub invariant-loop-found : tie.invariant-loop-found
+invariant-loop-found p stream out₀ found₀ at₀ out found at = Good p × GoingA p stream out found at
 
-abbrev pub μ_loop : tie.decreases-loop
-μ_loop p stream out₀ found₀ at₀ out found at = length stream - at
+abbrev pub decreases-loop-found : tie.decreases-loop-found
+decreases-loop-found p stream out₀ found₀ at₀ out found at = length stream - at

@@ -4,76 +4,77 @@ use Rattle.sampling.proofs.set1.sample_s.Tie as tie
 abbrev pub Start : Type 0
 Start = tie.Start
 
-abbrev pub Else1 : Type 0
-Else1 = tie.Else1
+abbrev pub Else-out-ne-N : Type 0
+Else-out-ne-N = tie.Else-out-ne-N
 
 abbrev pub After-numbers : Type 0
 After-numbers = tie.After-numbers
 
-abbrev pub After-s : Type 0
-After-s = tie.After-s
+abbrev pub After-s-1 : Type 0
+After-s-1 = tie.After-s-1
 
-abbrev pub After-draw-s : Type 0
-After-draw-s = tie.After-draw-s
+abbrev pub After-draw_s : Type 0
+After-draw_s = tie.After-draw_s
 
-abbrev pub After-enum-told : Type 0
-After-enum-told = tie.After-enum-told
+abbrev pub In-All : Type 0
+In-All = tie.In-All
 
-abbrev pub After-enum-told2 : Type 0
-After-enum-told2 = tie.After-enum-told2
+abbrev pub In_default : Type 0
+In_default = tie.In_default
 
-abbrev pub After-copy-signed : Type 0
-After-copy-signed = tie.After-copy-signed
+abbrev pub After-copy_signed : Type 0
+After-copy_signed = tie.After-copy_signed
 
-abbrev pub After-out : Type 0
-After-out = tie.After-out
+abbrev pub After-out-1 : Type 0
+After-out-1 = tie.After-out-1
 
-abbrev pub after-s :
-    After-s →
+abbrev pub after-s-1 :
+    After-s-1 →
     record { after-numbers : After-numbers }
-after-s c =
+after-s-1 c =
     let after-numbers = c.before in
     record { after-numbers = after-numbers }
 
-abbrev pub after-enum-told2 :
-    After-enum-told2 →
-    record { start : Start; else1 : Else1; after-numbers : After-numbers; after-draw-s : After-draw-s }
-after-enum-told2 c =
-    let after-draw-s = c.before.before.before in
-    let after-numbers = after-draw-s.before.before in
-    let else1 = after-numbers.before in
-    let start = else1.before.before in
-    record { start = start; else1 = else1; after-numbers = after-numbers; after-draw-s = after-draw-s }
+abbrev pub in_default :
+    In_default →
+    record { start : Start; else-out-ne-N : Else-out-ne-N; after-numbers : After-numbers; after-draw_s : After-draw_s }
+in_default c =
+    let after-draw_s = c.before.before in
+    let after-numbers = after-draw_s.before.before in
+    let else-out-ne-N = after-numbers.before in
+    let start = else-out-ne-N.before.before in
+    record { start = start; else-out-ne-N = else-out-ne-N; after-numbers = after-numbers; after-draw_s = after-draw_s }
 
-abbrev pub after-out :
-    After-out →
+abbrev pub after-out-1 :
+    After-out-1 →
     record {
       start : Start;
-      else1 : Else1;
+      else-out-ne-N : Else-out-ne-N;
       after-numbers : After-numbers;
-      after-draw-s : After-draw-s;
-      after-enum-told : After-enum-told;
-      after-copy-signed : After-copy-signed;
+      after-draw_s : After-draw_s;
+      in-All : In-All;
+      after-copy_signed : After-copy_signed;
     }
-after-out c =
-    let after-copy-signed = c.before in
-    let after-enum-told = after-copy-signed.before.before.before in
-    let after-draw-s = after-enum-told.before.before.before in
-    let after-numbers = after-draw-s.before.before in
-    let else1 = after-numbers.before in
-    let start = else1.before.before in
+after-out-1 c =
+    let after-copy_signed = c.before in
+    let in-All = after-copy_signed.before.before.before in
+    let after-draw_s = in-All.before.before in
+    let after-numbers = after-draw_s.before.before in
+    let else-out-ne-N = after-numbers.before in
+    let start = else-out-ne-N.before.before in
     record {
       start = start;
-      else1 = else1;
+      else-out-ne-N = else-out-ne-N;
       after-numbers = after-numbers;
-      after-draw-s = after-draw-s;
-      after-enum-told = after-enum-told;
-      after-copy-signed = after-copy-signed;
+      after-draw_s = after-draw_s;
+      in-All = in-All;
+      after-copy_signed = after-copy_signed;
     }
 
 -- the code's places and needs when this was made, by which `places` follows a change of the code
--- code: Start After-shared-slice-known=shared-slice-known Then1=if1 Else1=if1 After-numbers=numbers After-s=s After-draw-s=draw-s After-s2=s2
--- code: At-match-keys1=match After-enum-told=enum-told At-match-keys2=match After-enum-told2=enum-told2 After-copy-signed-arg=copy-signed-arg
--- code: After-s3=s3 After-copy-signed=copy-signed After-out=out
--- needs: returns numbers-requires slice-aggregate-draw-s draw-s-requires enum-told enum-told-2 returns-2 slice-aggregate-copy-signed
--- needs: copy-signed-requires same-length returns-3
+-- code: Start After-shared_slice_known-1=shared_slice_known-1 Then-out-ne-N=if-out-ne-N Else-out-ne-N=if-out-ne-N After-numbers=numbers After-s-1=s-1
+-- code: After-draw_s=draw_s After-s-2-1=s-2-1 In-All-1=in-All-1 Walked-In-All=enum_told-1 In-All In_default-1=in_default-1
+-- code: Walked-In_default=enum_told-in_default-1 In_default After-copy_signed-arg-1=copy_signed-arg-1 After-s-3-1=s-3-1 After-copy_signed=copy_signed
+-- code: After-out-1=out-1
+-- needs: returns-then-out-ne-N numbers-requires slice_bounds-draw_s-end draw_s-requires enum_told-1 enum_told-in_default returns-in_default
+-- needs: slice_bounds-copy_signed-end copy_signed-requires shape_of-out returns

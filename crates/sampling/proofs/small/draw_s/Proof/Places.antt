@@ -1,99 +1,113 @@
 -- Made by `places`, from the places of the code: do not edit. A view is what was seen on the way to a place.
 use Rattle.sampling.proofs.small.draw_s.Tie as tie
-use Rattle.sampling.proofs.small.draw_s.Proof.Invariants.{InvLoop, μ_loop}
 
 abbrev pub Start : Type 0
-Start = tie.Start InvLoop μ_loop
+Start = tie.Start
 
-abbrev pub After-shared-slice-known : Type 0
-After-shared-slice-known = tie.After-shared-slice-known InvLoop μ_loop
+abbrev pub After-shared_slice_known-1 : Type 0
+After-shared_slice_known-1 = tie.After-shared_slice_known-1
 
-abbrev pub After-clear-signed : Type 0
-After-clear-signed = tie.After-clear-signed InvLoop μ_loop
+abbrev pub After-clear_signed : Type 0
+After-clear_signed = tie.After-clear_signed
 
-abbrev pub After-struct-known : Type 0
-After-struct-known = tie.After-struct-known InvLoop μ_loop
+abbrev pub After-struct_known-1 : Type 0
+After-struct_known-1 = tie.After-struct_known-1
 
-abbrev pub After-struct-known2 : Type 0
-After-struct-known2 = tie.After-struct-known2 InvLoop μ_loop
+abbrev pub After-struct_known-2-1 : Type 0
+After-struct_known-2-1 = tie.After-struct_known-2-1
 
-abbrev pub At-loop : Type 0
-At-loop = tie.At-loop InvLoop μ_loop
+abbrev pub At-loop-found : Type 0
+At-loop-found = tie.At-loop-found
 
-abbrev pub Then1 : Type 0
-Then1 = tie.Then1 InvLoop μ_loop
+abbrev pub In-loop-found : Type 0
+In-loop-found = tie.In-loop-found
 
-abbrev pub Else1 : Type 0
-Else1 = tie.Else1 InvLoop μ_loop
+abbrev pub After-loop-found : Type 0
+After-loop-found = tie.After-loop-found
 
-abbrev pub Then2 : Type 0
-Then2 = tie.Then2 InvLoop μ_loop
+abbrev pub Then-stream-at : Type 0
+Then-stream-at = tie.Then-stream-at
 
-abbrev pub Else2 : Type 0
-Else2 = tie.Else2 InvLoop μ_loop
+abbrev pub Else-stream-at : Type 0
+Else-stream-at = tie.Else-stream-at
 
-abbrev pub After-group-arg2 : Type 0
-After-group-arg2 = tie.After-group-arg2 InvLoop μ_loop
+abbrev pub After-group-arg-in-loop-found-1 : Type 0
+After-group-arg-in-loop-found-1 = tie.After-group-arg-in-loop-found-1
 
-abbrev pub After-group : Type 0
-After-group = tie.After-group InvLoop μ_loop
+abbrev pub After-group-found : Type 0
+After-group-found = tie.After-group-found
 
-abbrev pub After-struct-known5 : Type 0
-After-struct-known5 = tie.After-struct-known5 InvLoop μ_loop
+abbrev pub After-struct_known-in-loop-found-3-1 : Type 0
+After-struct_known-in-loop-found-3-1 = tie.After-struct_known-in-loop-found-3-1
 
-abbrev pub after-struct-known :
-    After-struct-known →
+abbrev pub after-struct_known-1 :
+    After-struct_known-1 →
     record { start : Start }
-after-struct-known c =
+after-struct_known-1 c =
     let start = c.before.before.before.before.before in
     record { start = start }
 
-abbrev pub after-struct-known2 :
-    After-struct-known2 →
-    record { start : Start; after-clear-signed : After-clear-signed }
-after-struct-known2 c =
-    let after-clear-signed = c.before.before.before in
-    let start = after-clear-signed.before.before.before in
-    record { start = start; after-clear-signed = after-clear-signed }
+abbrev pub after-struct_known-2-1 :
+    After-struct_known-2-1 →
+    record { start : Start; after-clear_signed : After-clear_signed }
+after-struct_known-2-1 c =
+    let after-clear_signed = c.before.before.before in
+    let start = after-clear_signed.before.before.before in
+    record { start = start; after-clear_signed = after-clear_signed }
 
-abbrev pub else1 :
-    Else1 →
-    record { at-loop : At-loop }
-else1 c =
-    let at-loop = c.before.before in
-    record { at-loop = at-loop }
+abbrev pub after-loop-found :
+    After-loop-found →
+    record { at-loop-found : At-loop-found }
+after-loop-found c =
+    let at-loop-found = c.before.before in
+    record { at-loop-found = at-loop-found }
 
-abbrev pub then2 :
-    Then2 →
-    record { at-loop : At-loop; then1 : Then1 }
-then2 c =
-    let then1 = c.before.before in
-    let at-loop = then1.before.before in
-    record { at-loop = at-loop; then1 = then1 }
+abbrev pub then-stream-at :
+    Then-stream-at →
+    record { at-loop-found : At-loop-found; in-loop-found : In-loop-found }
+then-stream-at c =
+    let in-loop-found = c.before.before in
+    let at-loop-found = in-loop-found.before.before in
+    record { at-loop-found = at-loop-found; in-loop-found = in-loop-found }
 
-abbrev pub after-group-arg2 :
-    After-group-arg2 →
-    record { start : Start; at-loop : At-loop }
-after-group-arg2 c =
-    let at-loop = c.before.before.before.before.before.before in
-    let start = at-loop.before.before.before.before.before.before.before in
-    record { start = start; at-loop = at-loop }
+abbrev pub after-group-arg-in-loop-found-1 :
+    After-group-arg-in-loop-found-1 →
+    record { start : Start; at-loop-found : At-loop-found }
+after-group-arg-in-loop-found-1 c =
+    let at-loop-found = c.before.before.before.before.before.before in
+    let start = at-loop-found.before.before.before.before.before.before.before in
+    record { start = start; at-loop-found = at-loop-found }
 
-abbrev pub after-struct-known5 :
-    After-struct-known5 →
-    record { start : Start; after-shared-slice-known : After-shared-slice-known; at-loop : At-loop; else2 : Else2; after-group : After-group }
-after-struct-known5 c =
-    let after-group = c.before.before in
-    let else2 = after-group.before.before.before in
-    let at-loop = else2.before.before.before.before in
-    let after-shared-slice-known = at-loop.before.before.before.before.before.before in
-    let start = after-shared-slice-known.before in
-    record { start = start; after-shared-slice-known = after-shared-slice-known; at-loop = at-loop; else2 = else2; after-group = after-group }
+abbrev pub after-struct_known-in-loop-found-3-1 :
+    After-struct_known-in-loop-found-3-1 →
+    record {
+      start : Start;
+      after-shared_slice_known-1 : After-shared_slice_known-1;
+      at-loop-found : At-loop-found;
+      else-stream-at : Else-stream-at;
+      after-group-found : After-group-found;
+    }
+after-struct_known-in-loop-found-3-1 c =
+    let after-group-found = c.before.before in
+    let else-stream-at = after-group-found.before.before.before in
+    let at-loop-found = else-stream-at.before.before.before.before in
+    let after-shared_slice_known-1 = at-loop-found.before.before.before.before.before.before in
+    let start = after-shared_slice_known-1.before in
+    record {
+      start = start;
+      after-shared_slice_known-1 = after-shared_slice_known-1;
+      at-loop-found = at-loop-found;
+      else-stream-at = else-stream-at;
+      after-group-found = after-group-found;
+    }
 
 -- the code's places and needs when this was made, by which `places` follows a change of the code
--- code: Start After-shared-slice-known=shared-slice-known After-clear-signed-arg=clear-signed-arg After-clear-signed=clear-signed After-out=out
--- code: After-struct-known=struct-known After-struct-known2=struct-known2 At-loop=loop After-struct-known3=struct-known3 Then1=if1 Else1=if1
--- code: After-struct-known4=struct-known4 Then2=if2 Else2=if2 After-group-arg=group-arg After-group-arg2=group-arg2 After-group=group After-out2=out2
--- code: After-struct-known5=struct-known5
--- needs: clear-signed-requires mul-count div-count loop-holds sub-if2 same-length returns sub-group part-group-start part-group-end group-requires
--- needs: add-at loop-less loop-again same-length-2 returns-2
+-- code: Start After-shared_slice_known-1=shared_slice_known-1 After-clear_signed-arg-1=clear_signed-arg-1 After-clear_signed=clear_signed
+-- code: After-out-1=out-1 After-struct_known-1=struct_known-1 After-struct_known-2-1=struct_known-2-1 At-loop-found=loop-found
+-- code: After-struct_known-in-loop-found-1=struct_known-in-loop-found-1 In-loop-found=loop-found-test After-loop-found=loop-found-test
+-- code: After-struct_known-in-loop-found-2-1=struct_known-in-loop-found-2-1 Then-stream-at=if-stream-at Else-stream-at=if-stream-at
+-- code: After-group-arg-1=group-arg-1 After-group-arg-in-loop-found-1=group-arg-in-loop-found-1 After-group-found=group-found
+-- code: After-out-in-loop-found-1=out-in-loop-found-1 After-struct_known-in-loop-found-3-1=struct_known-in-loop-found-3-1
+-- needs: clear_signed-requires overflow_mul-count nonzero_div-count loop-found-init overflow_sub-stream shape_of-out-then-stream-at
+-- needs: returns-then-stream-at slice_bounds-group-count slice_bounds-group-start slice_bounds-group-end group-found-requires overflow_add-at
+-- needs: loop-found-smaller loop-found-preserved shape_of-out returns

@@ -1,94 +1,94 @@
 -- Made by `places`, from the places of the code: do not edit. A view is what was seen on the way to a place.
 use Rattle.sampling.proofs.small.group.Tie as tie
-use Rattle.sampling.proofs.small.group.Proof.Invariants.{InvLoop, μ_loop}
 
 abbrev pub Start : Type 0
-Start = tie.Start InvLoop μ_loop
+Start = tie.Start
 
-abbrev pub After-shared-slice-known : Type 0
-After-shared-slice-known = tie.After-shared-slice-known InvLoop μ_loop
+abbrev pub After-shared_slice_known-1 : Type 0
+After-shared_slice_known-1 = tie.After-shared_slice_known-1
 
-abbrev pub After-window : Type 0
-After-window = tie.After-window InvLoop μ_loop
+abbrev pub After-window-rest : Type 0
+After-window-rest = tie.After-window-rest
 
-abbrev pub After-struct-known : Type 0
-After-struct-known = tie.After-struct-known InvLoop μ_loop
+abbrev pub After-struct_known-1 : Type 0
+After-struct_known-1 = tie.After-struct_known-1
 
-abbrev pub At-loop : Type 0
-At-loop = tie.At-loop InvLoop μ_loop
+abbrev pub At-loop-i : Type 0
+At-loop-i = tie.At-loop-i
 
-abbrev pub In-loop : Type 0
-In-loop = tie.In-loop InvLoop μ_loop
+abbrev pub In-loop-i : Type 0
+In-loop-i = tie.In-loop-i
 
-abbrev pub After-loop : Type 0
-After-loop = tie.After-loop InvLoop μ_loop
+abbrev pub After-loop-i : Type 0
+After-loop-i = tie.After-loop-i
 
-abbrev pub Then1 : Type 0
-Then1 = tie.Then1 InvLoop μ_loop
+abbrev pub Then-p-to : Type 0
+Then-p-to = tie.Then-p-to
 
-abbrev pub Else1 : Type 0
-Else1 = tie.Else1 InvLoop μ_loop
+abbrev pub Else-p-to : Type 0
+Else-p-to = tie.Else-p-to
 
-abbrev pub After-keep-arg : Type 0
-After-keep-arg = tie.After-keep-arg InvLoop μ_loop
+abbrev pub After-keep-arg-1 : Type 0
+After-keep-arg-1 = tie.After-keep-arg-1
 
-abbrev pub After-keep : Type 0
-After-keep = tie.After-keep InvLoop μ_loop
+abbrev pub After-keep-to : Type 0
+After-keep-to = tie.After-keep-to
 
-abbrev pub After-out : Type 0
-After-out = tie.After-out InvLoop μ_loop
+abbrev pub After-out-1 : Type 0
+After-out-1 = tie.After-out-1
 
-abbrev pub after-struct-known :
-    After-struct-known →
-    record { start : Start; after-shared-slice-known : After-shared-slice-known; after-window : After-window }
-after-struct-known c =
-    let after-window = c.before in
-    let after-shared-slice-known = after-window.before in
-    let start = after-shared-slice-known.before in
-    record { start = start; after-shared-slice-known = after-shared-slice-known; after-window = after-window }
+abbrev pub after-struct_known-1 :
+    After-struct_known-1 →
+    record { start : Start; after-shared_slice_known-1 : After-shared_slice_known-1; after-window-rest : After-window-rest }
+after-struct_known-1 c =
+    let after-window-rest = c.before in
+    let after-shared_slice_known-1 = after-window-rest.before in
+    let start = after-shared_slice_known-1.before in
+    record { start = start; after-shared_slice_known-1 = after-shared_slice_known-1; after-window-rest = after-window-rest }
 
-abbrev pub after-loop :
-    After-loop →
-    record { at-loop : At-loop }
-after-loop c =
-    let at-loop = c.before in
-    record { at-loop = at-loop }
+abbrev pub after-loop-i :
+    After-loop-i →
+    record { at-loop-i : At-loop-i }
+after-loop-i c =
+    let at-loop-i = c.before in
+    record { at-loop-i = at-loop-i }
 
-abbrev pub then1 :
-    Then1 →
-    record { at-loop : At-loop }
-then1 c =
-    let at-loop = c.before.before.before in
-    record { at-loop = at-loop }
+abbrev pub then-p-to :
+    Then-p-to →
+    record { at-loop-i : At-loop-i }
+then-p-to c =
+    let at-loop-i = c.before.before.before in
+    record { at-loop-i = at-loop-i }
 
-abbrev pub else1 :
-    Else1 →
+abbrev pub else-p-to :
+    Else-p-to →
     record { start : Start }
-else1 c =
+else-p-to c =
     let start = c.before.before.before.before.before.before.before in
     record { start = start }
 
-abbrev pub after-keep-arg :
-    After-keep-arg →
-    record { start : Start; at-loop : At-loop }
-after-keep-arg c =
-    let at-loop = c.before.before.before.before in
-    let start = at-loop.before.before.before.before in
-    record { start = start; at-loop = at-loop }
+abbrev pub after-keep-arg-1 :
+    After-keep-arg-1 →
+    record { start : Start; at-loop-i : At-loop-i }
+after-keep-arg-1 c =
+    let at-loop-i = c.before.before.before.before in
+    let start = at-loop-i.before.before.before.before in
+    record { start = start; at-loop-i = at-loop-i }
 
-abbrev pub after-out :
-    After-out →
-    record { start : Start; at-loop : At-loop; in-loop : In-loop; else1 : Else1; after-keep : After-keep }
-after-out c =
-    let after-keep = c.before in
-    let else1 = after-keep.before.before in
-    let in-loop = else1.before.before in
-    let at-loop = in-loop.before in
-    let start = at-loop.before.before.before.before in
-    record { start = start; at-loop = at-loop; in-loop = in-loop; else1 = else1; after-keep = after-keep }
+abbrev pub after-out-1 :
+    After-out-1 →
+    record { start : Start; at-loop-i : At-loop-i; in-loop-i : In-loop-i; else-p-to : Else-p-to; after-keep-to : After-keep-to }
+after-out-1 c =
+    let after-keep-to = c.before in
+    let else-p-to = after-keep-to.before.before in
+    let in-loop-i = else-p-to.before.before in
+    let at-loop-i = in-loop-i.before in
+    let start = at-loop-i.before.before.before.before in
+    record { start = start; at-loop-i = at-loop-i; in-loop-i = in-loop-i; else-p-to = else-p-to; after-keep-to = after-keep-to }
 
 -- the code's places and needs when this was made, by which `places` follows a change of the code
--- code: Start After-shared-slice-known=shared-slice-known After-window=window After-struct-known=struct-known At-loop=loop In-loop=loop-test
--- code: After-loop=loop-test After-struct-known2=struct-known2 Then1=if1 Else1=if1 After-keep-arg=keep-arg After-keep=keep After-out=out
--- needs: window-requires cast-wide loop-holds same-length returns shl-keep rem-keep keep-requires shr-rest add-i loop-less loop-again same-length-2
--- needs: returns-2
+-- code: Start After-shared_slice_known-1=shared_slice_known-1 After-window-rest=window-rest After-struct_known-1=struct_known-1 At-loop-i=loop-i
+-- code: In-loop-i=loop-i-test After-loop-i=loop-i-test After-struct_known-in-loop-i-1=struct_known-in-loop-i-1 Then-p-to=if-p-to Else-p-to=if-p-to
+-- code: After-keep-arg-1=keep-arg-1 After-keep-to=keep-to After-out-1=out-1
+-- needs: window-rest-requires overflow_cast-wide loop-i-init shape_of-out-then-p-to returns-then-p-to overflow_shl-wide nonzero_rem-rest
+-- needs: keep-to-requires overflow_shr-rest overflow_add-i loop-i-smaller loop-i-preserved shape_of-out returns

@@ -5,34 +5,34 @@ abbrev pub Start : Type 0
 Start = tie.Start
 
 abbrev pub Fits : Type 0
-Fits = tie.Then1
+Fits = tie.Then-m-room
 
-abbrev pub Fits-copied : Type 0
-Fits-copied = tie.After-copy
+abbrev pub FitsCopied : Type 0
+FitsCopied = tie.After-copy
 
-abbrev pub Fits-done : Type 0
-Fits-done = tie.After-slice-known2
+abbrev pub FitsDone : Type 0
+FitsDone = tie.After-slice_known-then-m-room-1
 
 abbrev pub Fills : Type 0
-Fills = tie.Else1
+Fills = tie.Else-m-room
 
-abbrev pub To-copy : Type 0
-To-copy = tie.After-copy-arg3
+abbrev pub ToCopy : Type 0
+ToCopy = tie.After-copy-arg-2-1
 
 abbrev pub Filled : Type 0
-Filled = tie.After-copy2
+Filled = tie.After-copy-2
 
-abbrev pub First-in : Type 0
-First-in = tie.After-blocks2
+abbrev pub FirstIn : Type 0
+FirstIn = tie.After-blocks-s
 
-abbrev pub Rest-held : Type 0
-Rest-held = tie.After-copy3
+abbrev pub RestHeld : Type 0
+RestHeld = tie.After-copy-3
 
-abbrev pub No-more : Type 0
-No-more = tie.Then2
+abbrev pub NoMore : Type 0
+NoMore = tie.Then-n-eq0
 
-abbrev pub All-in : Type 0
-All-in = tie.After-blocks3
+abbrev pub AllIn : Type 0
+AllIn = tie.After-blocks-2
 
 abbrev pub fits :
     Fits →
@@ -41,14 +41,14 @@ fits c =
     let start = c.before.before.before in
     record { start = start }
 
-abbrev pub fits-done :
-    Fits-done →
-    record { start : Start; fits : Fits; fits-copied : Fits-copied }
-fits-done c =
-    let fits-copied = c.before.before in
-    let fits = fits-copied.before.before in
+abbrev pub fits_done :
+    FitsDone →
+    record { start : Start; fits : Fits; fits_copied : FitsCopied }
+fits_done c =
+    let fits_copied = c.before.before in
+    let fits = fits_copied.before.before in
     let start = fits.before.before.before in
-    record { start = start; fits = fits; fits-copied = fits-copied }
+    record { start = start; fits = fits; fits_copied = fits_copied }
 
 abbrev pub fills :
     Fills →
@@ -57,41 +57,43 @@ fills c =
     let start = c.before.before.before in
     record { start = start }
 
-abbrev pub to-copy :
-    To-copy →
+abbrev pub to_copy :
+    ToCopy →
     record { start : Start; fills : Fills }
-to-copy c =
-    let fills = c.before.before in
+to_copy c =
+    let fills = c.before in
     let start = fills.before.before.before in
     record { start = start; fills = fills }
 
 abbrev pub no_more :
-    No-more →
-    record { start : Start; fills : Fills; filled : Filled; first-in : First-in; rest_held : Rest-held }
+    NoMore →
+    record { start : Start; fills : Fills; filled : Filled; first_in : FirstIn; rest_held : RestHeld }
 no_more c =
     let rest_held = c.before.before.before in
-    let first-in = rest_held.before.before.before in
-    let filled = first-in.before.before.before.before in
-    let fills = filled.before.before.before in
+    let first_in = rest_held.before.before.before in
+    let filled = first_in.before.before.before in
+    let fills = filled.before.before in
     let start = fills.before.before.before in
-    record { start = start; fills = fills; filled = filled; first-in = first-in; rest_held = rest_held }
+    record { start = start; fills = fills; filled = filled; first_in = first_in; rest_held = rest_held }
 
 abbrev pub all_in :
-    All-in →
-    record { start : Start; fills : Fills; filled : Filled; first-in : First-in; rest_held : Rest-held }
+    AllIn →
+    record { start : Start; fills : Fills; filled : Filled; first_in : FirstIn; rest_held : RestHeld }
 all_in c =
     let rest_held = c.before.before.before.before.before in
-    let first-in = rest_held.before.before.before in
-    let filled = first-in.before.before.before.before in
-    let fills = filled.before.before.before in
+    let first_in = rest_held.before.before.before in
+    let filled = first_in.before.before.before in
+    let fills = filled.before.before in
     let start = fills.before.before.before in
-    record { start = start; fills = fills; filled = filled; first-in = first-in; rest_held = rest_held }
+    record { start = start; fills = fills; filled = filled; first_in = first_in; rest_held = rest_held }
 
 -- the code's places and needs when this was made, by which `places` follows a change of the code
--- code: Start After-slice-known=slice-known After-shared-slice-known=shared-slice-known Then1=if1 After-copy-arg=copy-arg After-copy=copy
--- code: After-held=held After-slice-known2=slice-known2 Else1=if1 After-copy-arg2=copy-arg2 After-copy-arg3=copy-arg3 After-copy2=copy2
--- code: After-held2=held2 After-slice-known3=slice-known3 After-blocks-arg=blocks-arg After-blocks2=blocks2 After-copy-arg4=copy-arg4
--- code: After-copy-arg5=copy-arg5 After-copy3=copy3 After-held3=held3 After-slice-known4=slice-known4 Then2=if2 Else2=if2
--- code: After-blocks-arg2=blocks-arg2 After-blocks3=blocks3
--- needs: sub-room copy-requires same-length returns slice-aggregate-copy copy-requires-2 blocks-requires sub-n mul-n add-end sub-copy part-copy-start
--- needs: part-copy-end copy-requires-3 same-length-2 returns-2 sub-blocks part-blocks-start part-blocks-end blocks-requires-2 same-length-3 returns-3
+-- code: Start After-slice_known-1=slice_known-1 After-shared_slice_known-1=shared_slice_known-1 Then-m-room=if-m-room After-copy-arg-1=copy-arg-1
+-- code: After-copy=copy After-held-1=held-1 After-slice_known-then-m-room-1=slice_known-then-m-room-1 Else-m-room=if-m-room
+-- code: After-copy-arg-2-1=copy-arg-2-1 After-copy-2=copy-2 After-held-2-1=held-2-1 After-slice_known-2-1=slice_known-2-1 After-blocks-s=blocks-s
+-- code: After-copy-arg-3-1=copy-arg-3-1 After-copy-arg-4-1=copy-arg-4-1 After-copy-3=copy-3 After-held-3-1=held-3-1
+-- code: After-slice_known-3-1=slice_known-3-1 Then-n-eq0=if-n-eq0 Else-n-eq0=if-n-eq0 After-blocks-arg-1=blocks-arg-1 After-blocks-2=blocks-2
+-- needs: overflow_sub-room copy-requires shape_of-held-then-m-room returns-then-m-room slice_bounds-copy-end copy-requires-2 blocks-s-requires
+-- needs: overflow_sub-n overflow_mul-n overflow_add-end slice_bounds-copy-count slice_bounds-copy-start slice_bounds-copy-end-2 copy-requires-3
+-- needs: shape_of-held-then-n-eq0 returns-then-n-eq0 slice_bounds-blocks-count slice_bounds-blocks-start slice_bounds-blocks-end blocks-requires
+-- needs: shape_of-held returns

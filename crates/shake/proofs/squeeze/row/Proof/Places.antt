@@ -8,19 +8,19 @@ abbrev pub Lane0 : Type 0
 Lane0 = tie.After-store
 
 abbrev pub Lane1 : Type 0
-Lane1 = tie.After-store2
+Lane1 = tie.After-store-2
 
 abbrev pub Lane2 : Type 0
-Lane2 = tie.After-store3
+Lane2 = tie.After-store-3
 
 abbrev pub Lane3 : Type 0
-Lane3 = tie.After-store4
+Lane3 = tie.After-store-4
 
 abbrev pub Lane4 : Type 0
-Lane4 = tie.After-store5
+Lane4 = tie.After-store-5
 
 abbrev pub Done : Type 0
-Done = tie.After-slice-known6
+Done = tie.After-slice_known-6-1
 
 abbrev pub done :
     Done →
@@ -35,9 +35,12 @@ done c =
     record { start = start; lane0 = lane0; lane1 = lane1; lane2 = lane2; lane3 = lane3; lane4 = lane4 }
 
 -- the code's places and needs when this was made, by which `places` follows a change of the code
--- code: Start After-slice-known=slice-known After-store-arg=store-arg After-store=store After-out=out After-slice-known2=slice-known2
--- code: After-store-arg2=store-arg2 After-store2=store2 After-out2=out2 After-slice-known3=slice-known3 After-store-arg3=store-arg3
--- code: After-store3=store3 After-out3=out3 After-slice-known4=slice-known4 After-store-arg4=store-arg4 After-store4=store4 After-out4=out4
--- code: After-slice-known5=slice-known5 After-store-arg5=store-arg5 After-store5=store5 After-out5=out5 After-slice-known6=slice-known6
--- needs: array-read-store store-requires add-store array-read-store-2 store-requires-2 add-store-2 array-read-store-3 store-requires-3 add-store-3
--- needs: array-read-store-4 store-requires-4 add-store-4 array-read-store-5 store-requires-5 same-length returns
+-- code: Start After-slice_known-1=slice_known-1 After-store-arg-1-unread=store-arg-1 After-store-arg-1=store-arg-1 After-store=store
+-- code: After-out-1=out-1 After-slice_known-2-1=slice_known-2-1 After-store-arg-2-1-unread=store-arg-2-1 After-store-arg-2-1=store-arg-2-1
+-- code: After-store-2=store-2 After-out-2-1=out-2-1 After-slice_known-3-1=slice_known-3-1 After-store-arg-3-1-unread=store-arg-3-1
+-- code: After-store-arg-3-1=store-arg-3-1 After-store-3=store-3 After-out-3-1=out-3-1 After-slice_known-4-1=slice_known-4-1
+-- code: After-store-arg-4-1-unread=store-arg-4-1 After-store-arg-4-1=store-arg-4-1 After-store-4=store-4 After-out-4-1=out-4-1
+-- code: After-slice_known-5-1=slice_known-5-1 After-store-arg-5-1-unread=store-arg-5-1 After-store-arg-5-1=store-arg-5-1 After-store-5=store-5
+-- code: After-out-5-1=out-5-1 After-slice_known-6-1=slice_known-6-1
+-- needs: bounds-r-0 store-requires overflow_add-i bounds-r-1 store-requires-2 overflow_add-i-2 bounds-r-2 store-requires-3 overflow_add-i-3
+-- needs: bounds-r-3 store-requires-4 overflow_add-i-4 bounds-r-4 store-requires-5 shape_of-out returns

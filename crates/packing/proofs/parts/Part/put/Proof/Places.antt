@@ -4,25 +4,26 @@ use Rattle.packing.proofs.parts.Part.put.Tie as tie
 abbrev pub Start : Type 0
 Start = tie.Start
 
-abbrev pub After-span : Type 0
-After-span = tie.After-span
+abbrev pub After-span-span : Type 0
+After-span-span = tie.After-span-span
 
-abbrev pub After-copy-bytes : Type 0
-After-copy-bytes = tie.After-copy-bytes
+abbrev pub After-copy_bytes : Type 0
+After-copy_bytes = tie.After-copy_bytes
 
-abbrev pub After-slice-known2 : Type 0
-After-slice-known2 = tie.After-slice-known2
+abbrev pub After-slice_known-2-1 : Type 0
+After-slice_known-2-1 = tie.After-slice_known-2-1
 
-abbrev pub after-slice-known2 :
-    After-slice-known2 →
-    record { start : Start; after-span : After-span; after-copy-bytes : After-copy-bytes }
-after-slice-known2 c =
-    let after-copy-bytes = c.before.before in
-    let after-span = after-copy-bytes.before.before in
-    let start = after-span.before.before.before in
-    record { start = start; after-span = after-span; after-copy-bytes = after-copy-bytes }
+abbrev pub after-slice_known-2-1 :
+    After-slice_known-2-1 →
+    record { start : Start; after-span-span : After-span-span; after-copy_bytes : After-copy_bytes }
+after-slice_known-2-1 c =
+    let after-copy_bytes = c.before.before in
+    let after-span-span = after-copy_bytes.before.before in
+    let start = after-span-span.before.before.before in
+    record { start = start; after-span-span = after-span-span; after-copy_bytes = after-copy_bytes }
 
 -- the code's places and needs when this was made, by which `places` follows a change of the code
--- code: Start After-slice-known=slice-known After-shared-slice-known=shared-slice-known After-span=span After-copy-bytes-arg=copy-bytes-arg
--- code: After-copy-bytes=copy-bytes After-whole=whole After-slice-known2=slice-known2
--- needs: span-requires sub-copy-bytes part-copy-bytes-start part-copy-bytes-end copy-bytes-requires same-length returns
+-- code: Start After-slice_known-1=slice_known-1 After-shared_slice_known-1=shared_slice_known-1 After-span-span=span-span
+-- code: After-copy_bytes-arg-1=copy_bytes-arg-1 After-copy_bytes=copy_bytes After-whole-1=whole-1 After-slice_known-2-1=slice_known-2-1
+-- needs: span-span-requires slice_bounds-copy_bytes-count slice_bounds-copy_bytes-start slice_bounds-copy_bytes-end copy_bytes-requires
+-- needs: shape_of-whole returns

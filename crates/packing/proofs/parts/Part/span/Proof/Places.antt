@@ -4,36 +4,37 @@ use Rattle.packing.proofs.parts.Part.span.Tie as tie
 abbrev pub Start : Type 0
 Start = tie.Start
 
-abbrev pub After-seat : Type 0
-After-seat = tie.After-seat
+abbrev pub After-seat-seat : Type 0
+After-seat-seat = tie.After-seat-seat
 
-abbrev pub After-lengths : Type 0
-After-lengths = tie.After-lengths
+abbrev pub After-lengths-lengths : Type 0
+After-lengths-lengths = tie.After-lengths-lengths
 
-abbrev pub After-lengths2 : Type 0
-After-lengths2 = tie.After-lengths2
+abbrev pub After-lengths-1 : Type 0
+After-lengths-1 = tie.After-lengths-1
 
-abbrev pub After-sum : Type 0
-After-sum = tie.After-sum
+abbrev pub After-sum-start : Type 0
+After-sum-start = tie.After-sum-start
 
-abbrev pub after-lengths2 :
-    After-lengths2 →
-    record { start : Start; after-seat : After-seat; after-lengths : After-lengths }
-after-lengths2 c =
-    let after-lengths = c.before in
-    let after-seat = after-lengths.before in
-    let start = after-seat.before in
-    record { start = start; after-seat = after-seat; after-lengths = after-lengths }
+abbrev pub after-lengths-1 :
+    After-lengths-1 →
+    record { start : Start; after-seat-seat : After-seat-seat; after-lengths-lengths : After-lengths-lengths }
+after-lengths-1 c =
+    let after-lengths-lengths = c.before in
+    let after-seat-seat = after-lengths-lengths.before in
+    let start = after-seat-seat.before in
+    record { start = start; after-seat-seat = after-seat-seat; after-lengths-lengths = after-lengths-lengths }
 
-abbrev pub after-sum :
-    After-sum →
-    record { start : Start; after-seat : After-seat; after-lengths : After-lengths }
-after-sum c =
-    let after-lengths = c.before.before in
-    let after-seat = after-lengths.before in
-    let start = after-seat.before in
-    record { start = start; after-seat = after-seat; after-lengths = after-lengths }
+abbrev pub after-sum-start :
+    After-sum-start →
+    record { start : Start; after-seat-seat : After-seat-seat; after-lengths-lengths : After-lengths-lengths }
+after-sum-start c =
+    let after-lengths-lengths = c.before.before in
+    let after-seat-seat = after-lengths-lengths.before in
+    let start = after-seat-seat.before in
+    record { start = start; after-seat-seat = after-seat-seat; after-lengths-lengths = after-lengths-lengths }
 
 -- the code's places and needs when this was made, by which `places` follows a change of the code
--- code: Start After-seat=seat After-lengths=lengths After-lengths2=lengths2 After-sum=sum
--- needs: seat-requires lengths-requires slice-aggregate-sum sum-requires mul-t11 array-read-t14 add-t15 returns
+-- code: Start After-seat-seat=seat-seat After-lengths-lengths=lengths-lengths After-lengths-1=lengths-1 After-sum-start=sum-start
+-- needs: seat-seat-requires lengths-lengths-requires slice_bounds-sum-end sum-start-requires offset_bounds-lengths-i bounds-lengths-i
+-- needs: overflow_add-result returns
