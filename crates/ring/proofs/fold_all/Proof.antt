@@ -9,6 +9,7 @@
 -- place to_fold = After-fold_in-arg-1
 -- place folded = After-fold_in: and added
 -- place turned = After-slice_known-in-loop-e-1
+mod Invariants
 mod Places
 use mathlib.Core.Path.{◌≡◌, refl, ap, ◌∙◌}
 use Prim.Native.Nat.{ℕ, ◌+◌, ◌-◌, ◌*◌, ◌<◌, ◌≤◌}
@@ -18,6 +19,7 @@ use Rattle.ring.proofs.Engine.{reached_none, can_fold, reached_more, reached_all
 use borrow.Author.Rules.{rules}
 use Rattle.ring.proofs.fold_all.Statement.{statement}
 use Rattle.ring.proofs.fold_all.Tie as tie
+use Invariants.{invariant-loop-e, decreases-loop-e}
 use Places.{begins, ended, read, to_fold, turned}
 
 none : {n : ℕ} → 0 ≤ n

@@ -18,6 +18,7 @@
 -- place to_one = After-add_row-arg-1
 -- place one_done = After-add_row: one row is added
 -- place one_turned = After-slice_known-else-a1-a2-gt0-1
+mod Invariants
 mod Places
 use borrow.Author.Rules.{rules}
 use mathlib.Core.Path.{◌≡◌}
@@ -28,6 +29,7 @@ use Rattle.ring.proofs.Rowing.{sofar_none, room, sofar_four, sofar_one, sofar_sk
 use native.Mathlib.Omega.{arith}
 use Rattle.ring.proofs.rows.Statement.{statement}
 use Rattle.ring.proofs.rows.Tie as tie
+use Invariants.{invariant-loop-next, decreases-loop-next}
 use Places.{begins, Head, head, Turn, turn, ended, some, First, first, Second, second, Third, third, first_read, SecondRead, second_read}
 use Places.{ThirdRead, third_read, to_four, four_turned, to_one, one_turned, zero}
 

@@ -40,7 +40,7 @@
 -- place ct0_under = Else-p-magnitude-2
 -- place to_hints = After-combine-arg-1
 -- place hints_done = After-combine: the hints are there
--- place to_ones = After-count-ones-arg
+-- place to_ones = After-slice_known-in-tries-8-1
 -- place ones_done = After-count_ones
 -- place ones_over = Then-p-count_ones: too many of them are ones
 -- place passed = Else-p-count_ones: the try passes
@@ -76,11 +76,10 @@ use Rattle.tries.proofs.Trying.{hint_values, hint_bit, first_stop, first_end}
 use Rattle.tries.proofs.first_passing.Statement.{statement}
 use Rattle.tries.proofs.first_passing.Tie as tie
 use Invariants.{invariant-z, decreases-z, invariant-low, decreases-low, invariant-ct0, decreases-ct0, invariant-tries, decreases-tries}
-use Places.{Start, start, ct0_span, Head, head, spent, Begins, begins, to_mask, Mask-done, mask_done, to_commit, CommitDone, commit_done}
-use Places.{to_fill, Fill-done, Drawn, drawn, dry, to_respond, RespondDone, respond_done, ZPassed, z_passed, z_bound, z_read, ZOver, z_over}
-use Places.{z_under, to_rest, RestDone, rest_done, LowPassed, low_passed, low_bound, low_read, LowOver, low_over, low_under, to_ct0}
-use Places.{Ct0Done, ct0_done, Ct0Passed, ct0_passed, ct0_index, ct0_read, Ct0Over, ct0_over, ct0_under, to_hints, HintsDone, hints_done}
-use Places.{to_ones, Ones-over, ones_over, Passed, passed}
+use Places.{Start, start, ct0_span, Head, head, spent, Begins, begins, to_mask, mask_done, to_commit, CommitDone, commit_done, to_fill, Drawn}
+use Places.{drawn, dry, to_respond, RespondDone, respond_done, ZPassed, z_passed, z_bound, z_read, ZOver, z_over, z_under, to_rest, RestDone}
+use Places.{rest_done, LowPassed, low_passed, low_bound, low_read, LowOver, low_over, low_under, to_ct0, Ct0Done, ct0_done, Ct0Passed}
+use Places.{ct0_passed, ct0_index, ct0_read, Ct0Over, ct0_over, ct0_under, to_hints, HintsDone, hints_done, to_ones, ones_over, Passed, passed}
 
 -- ---- what the walk speaks of
 abbrev suits : (s : Start) → Trinomial s.args.p

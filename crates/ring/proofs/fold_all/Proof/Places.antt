@@ -1,38 +1,39 @@
 -- Made by `places`, from the places of the code: do not edit. A view is what was seen on the way to a place.
 use Rattle.ring.proofs.fold_all.Tie as tie
+use Rattle.ring.proofs.fold_all.Proof.Invariants.{invariant-loop-e, decreases-loop-e}
 
 abbrev pub Start : Type 0
-Start = tie.Start
+Start = tie.Start invariant-loop-e decreases-loop-e
 
 abbrev pub Cleared : Type 0
-Cleared = tie.After-clear_numbers
+Cleared = tie.After-clear_numbers invariant-loop-e decreases-loop-e
 
 abbrev pub Begins : Type 0
-Begins = tie.After-slice_known-2-1
+Begins = tie.After-slice_known-2-1 invariant-loop-e decreases-loop-e
 
 abbrev pub Head : Type 0
-Head = tie.At-loop-e
+Head = tie.At-loop-e invariant-loop-e decreases-loop-e
 
 abbrev pub Turn : Type 0
-Turn = tie.In-loop-e
+Turn = tie.In-loop-e invariant-loop-e decreases-loop-e
 
 abbrev pub Ended : Type 0
-Ended = tie.After-loop-e
+Ended = tie.After-loop-e invariant-loop-e decreases-loop-e
 
 abbrev pub Read : Type 0
-Read = tie.After-shared_slice_known-in-loop-e-1
+Read = tie.After-shared_slice_known-in-loop-e-1 invariant-loop-e decreases-loop-e
 
 abbrev pub Reduced : Type 0
-Reduced = tie.After-modulo-c
+Reduced = tie.After-modulo-c invariant-loop-e decreases-loop-e
 
 abbrev pub ToFold : Type 0
-ToFold = tie.After-fold_in-arg-1
+ToFold = tie.After-fold_in-arg-1 invariant-loop-e decreases-loop-e
 
 abbrev pub Folded : Type 0
-Folded = tie.After-fold_in
+Folded = tie.After-fold_in invariant-loop-e decreases-loop-e
 
 abbrev pub Turned : Type 0
-Turned = tie.After-slice_known-in-loop-e-1
+Turned = tie.After-slice_known-in-loop-e-1 invariant-loop-e decreases-loop-e
 
 abbrev pub begins :
     Begins →

@@ -1,65 +1,66 @@
 -- Made by `places`, from the places of the code: do not edit. A view is what was seen on the way to a place.
 use Rattle.ring.proofs.rows.Tie as tie
+use Rattle.ring.proofs.rows.Proof.Invariants.{invariant-loop-next, decreases-loop-next}
 
 abbrev pub Start : Type 0
-Start = tie.Start
+Start = tie.Start invariant-loop-next decreases-loop-next
 
 abbrev pub Begins : Type 0
-Begins = tie.After-slice_known-1
+Begins = tie.After-slice_known-1 invariant-loop-next decreases-loop-next
 
 abbrev pub Head : Type 0
-Head = tie.At-loop-next
+Head = tie.At-loop-next invariant-loop-next decreases-loop-next
 
 abbrev pub Turn : Type 0
-Turn = tie.In-loop-next
+Turn = tie.In-loop-next invariant-loop-next decreases-loop-next
 
 abbrev pub Ended : Type 0
-Ended = tie.After-loop-next
+Ended = tie.After-loop-next invariant-loop-next decreases-loop-next
 
 abbrev pub Some : Type 0
-Some = tie.Then-a0-gt0
+Some = tie.Then-a0-gt0 invariant-loop-next decreases-loop-next
 
 abbrev pub First : Type 0
-First = tie.After-past_zeros-i1
+First = tie.After-past_zeros-i1 invariant-loop-next decreases-loop-next
 
 abbrev pub Second : Type 0
-Second = tie.After-past_zeros-i2
+Second = tie.After-past_zeros-i2 invariant-loop-next decreases-loop-next
 
 abbrev pub Third : Type 0
-Third = tie.After-past_zeros-i3
+Third = tie.After-past_zeros-i3 invariant-loop-next decreases-loop-next
 
 abbrev pub FirstRead : Type 0
-FirstRead = tie.After-coefficient-a1
+FirstRead = tie.After-coefficient-a1 invariant-loop-next decreases-loop-next
 
 abbrev pub SecondRead : Type 0
-SecondRead = tie.After-coefficient-a2
+SecondRead = tie.After-coefficient-a2 invariant-loop-next decreases-loop-next
 
 abbrev pub ThirdRead : Type 0
-ThirdRead = tie.After-coefficient-a3
+ThirdRead = tie.After-coefficient-a3 invariant-loop-next decreases-loop-next
 
 abbrev pub ToFour : Type 0
-ToFour = tie.After-add_rows-arg-1
+ToFour = tie.After-add_rows-arg-1 invariant-loop-next decreases-loop-next
 
 abbrev pub FourDone : Type 0
-FourDone = tie.After-add_rows
+FourDone = tie.After-add_rows invariant-loop-next decreases-loop-next
 
 abbrev pub FourTurned : Type 0
-FourTurned = tie.After-slice_known-then-a1-a2-gt0-1
+FourTurned = tie.After-slice_known-then-a1-a2-gt0-1 invariant-loop-next decreases-loop-next
 
 abbrev pub Alone : Type 0
-Alone = tie.Else-a1-a2-gt0
+Alone = tie.Else-a1-a2-gt0 invariant-loop-next decreases-loop-next
 
 abbrev pub ToOne : Type 0
-ToOne = tie.After-add_row-arg-1
+ToOne = tie.After-add_row-arg-1 invariant-loop-next decreases-loop-next
 
 abbrev pub OneDone : Type 0
-OneDone = tie.After-add_row
+OneDone = tie.After-add_row invariant-loop-next decreases-loop-next
 
 abbrev pub OneTurned : Type 0
-OneTurned = tie.After-slice_known-else-a1-a2-gt0-1
+OneTurned = tie.After-slice_known-else-a1-a2-gt0-1 invariant-loop-next decreases-loop-next
 
 abbrev pub Zero : Type 0
-Zero = tie.Else-a0-gt0
+Zero = tie.Else-a0-gt0 invariant-loop-next decreases-loop-next
 
 abbrev pub begins :
     Begins →

@@ -1,3 +1,4 @@
+mod Invariants
 mod Places
 use mathlib.Core.Path.{ap, ◌∙◌}
 use Prim.Native.Nat.{ℕ, ◌-◌}
@@ -8,6 +9,7 @@ use Rattle.sampling.proofs.Going.{going_none, s_more, s_dry, s_all}
 use borrow.Author.Rules.{rules}
 use Rattle.sampling.proofs.small.draw_s.Statement.{statement}
 use Rattle.sampling.proofs.small.draw_s.Tie as tie
+use Invariants.{invariant-loop-found, decreases-loop-found}
 use Places.{after-struct_known-1, after-struct_known-2-1, after-loop-found, then-stream-at, after-group-arg-in-loop-found-1}
 use Places.{after-struct_known-in-loop-found-3-1}
 

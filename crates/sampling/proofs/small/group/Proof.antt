@@ -1,3 +1,4 @@
+mod Invariants
 mod Places
 use mathlib.Core.Path.{ap}
 use Prim.Native.Nat.{ℕ, ◌-◌, ◌%◌}
@@ -9,6 +10,7 @@ use Rattle.sampling.proofs.Taking.{taking_none, taking_full, taking_all, taking_
 use borrow.Author.Rules.{rules}
 use Rattle.sampling.proofs.small.group.Statement.{statement}
 use Rattle.sampling.proofs.small.group.Tie as tie
+use Invariants.{invariant-loop-i, decreases-loop-i}
 use Places.{after-struct_known-1, after-loop-i, then-p-to, else-p-to, after-keep-arg-1, after-out-1}
 
 window_requires : tie.Need-window-rest-requires invariant-loop-i decreases-loop-i

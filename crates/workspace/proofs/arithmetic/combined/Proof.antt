@@ -9,8 +9,8 @@ use Rattle.workspace.specs.Inner.{combined}
 use borrow.Author.Rules.{rules}
 use Rattle.workspace.proofs.arithmetic.combined.Statement.{statement}
 use Rattle.workspace.proofs.arithmetic.combined.Tie as tie
-use Places.{after-wrap, after-wrap-in-Difference, after-less_scaled, after-wrap-in-Hint-2, after-hint_of, after-used_of, after-high_of, after-power_high}
-use Places.{after-power_low}
+use Places.{after-wrap, after-wrap-in-Difference, after-less_scaled, after-wrap-in-Hint-2, after-hint_of, after-used_of, after-high_of}
+use Places.{after-power_high, after-power_low}
 
 enum_told : tie.Need-enum_told-1
 enum_told c = search rules

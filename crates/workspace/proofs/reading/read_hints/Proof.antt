@@ -7,7 +7,7 @@ use Rattle.workspace.proofs.Fields.{asks_part, hints_bad, hints_below, hints_man
 use borrow.Author.Rules.{rules}
 use Rattle.workspace.proofs.reading.read_hints.Statement.{statement}
 use Rattle.workspace.proofs.reading.read_hints.Tie as tie
-use Places.{after-unpack-arg-1, bad, after-count-ones-arg, many, few}
+use Places.{after-unpack-arg-1, bad, many, few}
 
 -- place bad = In-BadAt
 -- place all = In_default

@@ -1,44 +1,45 @@
 -- Made by `places`, from the places of the code: do not edit. A view is what was seen on the way to a place.
 use Rattle.sampling.proofs.small.draw_s.Tie as tie
+use Rattle.sampling.proofs.small.draw_s.Proof.Invariants.{invariant-loop-found, decreases-loop-found}
 
 abbrev pub Start : Type 0
-Start = tie.Start
+Start = tie.Start invariant-loop-found decreases-loop-found
 
 abbrev pub After-shared_slice_known-1 : Type 0
-After-shared_slice_known-1 = tie.After-shared_slice_known-1
+After-shared_slice_known-1 = tie.After-shared_slice_known-1 invariant-loop-found decreases-loop-found
 
 abbrev pub After-clear_signed : Type 0
-After-clear_signed = tie.After-clear_signed
+After-clear_signed = tie.After-clear_signed invariant-loop-found decreases-loop-found
 
 abbrev pub After-struct_known-1 : Type 0
-After-struct_known-1 = tie.After-struct_known-1
+After-struct_known-1 = tie.After-struct_known-1 invariant-loop-found decreases-loop-found
 
 abbrev pub After-struct_known-2-1 : Type 0
-After-struct_known-2-1 = tie.After-struct_known-2-1
+After-struct_known-2-1 = tie.After-struct_known-2-1 invariant-loop-found decreases-loop-found
 
 abbrev pub At-loop-found : Type 0
-At-loop-found = tie.At-loop-found
+At-loop-found = tie.At-loop-found invariant-loop-found decreases-loop-found
 
 abbrev pub In-loop-found : Type 0
-In-loop-found = tie.In-loop-found
+In-loop-found = tie.In-loop-found invariant-loop-found decreases-loop-found
 
 abbrev pub After-loop-found : Type 0
-After-loop-found = tie.After-loop-found
+After-loop-found = tie.After-loop-found invariant-loop-found decreases-loop-found
 
 abbrev pub Then-stream-at : Type 0
-Then-stream-at = tie.Then-stream-at
+Then-stream-at = tie.Then-stream-at invariant-loop-found decreases-loop-found
 
 abbrev pub Else-stream-at : Type 0
-Else-stream-at = tie.Else-stream-at
+Else-stream-at = tie.Else-stream-at invariant-loop-found decreases-loop-found
 
 abbrev pub After-group-arg-in-loop-found-1 : Type 0
-After-group-arg-in-loop-found-1 = tie.After-group-arg-in-loop-found-1
+After-group-arg-in-loop-found-1 = tie.After-group-arg-in-loop-found-1 invariant-loop-found decreases-loop-found
 
 abbrev pub After-group-found : Type 0
-After-group-found = tie.After-group-found
+After-group-found = tie.After-group-found invariant-loop-found decreases-loop-found
 
 abbrev pub After-struct_known-in-loop-found-3-1 : Type 0
-After-struct_known-in-loop-found-3-1 = tie.After-struct_known-in-loop-found-3-1
+After-struct_known-in-loop-found-3-1 = tie.After-struct_known-in-loop-found-3-1 invariant-loop-found decreases-loop-found
 
 abbrev pub after-struct_known-1 :
     After-struct_known-1 →

@@ -1,41 +1,42 @@
 -- Made by `places`, from the places of the code: do not edit. A view is what was seen on the way to a place.
 use Rattle.sampling.proofs.small.group.Tie as tie
+use Rattle.sampling.proofs.small.group.Proof.Invariants.{invariant-loop-i, decreases-loop-i}
 
 abbrev pub Start : Type 0
-Start = tie.Start
+Start = tie.Start invariant-loop-i decreases-loop-i
 
 abbrev pub After-shared_slice_known-1 : Type 0
-After-shared_slice_known-1 = tie.After-shared_slice_known-1
+After-shared_slice_known-1 = tie.After-shared_slice_known-1 invariant-loop-i decreases-loop-i
 
 abbrev pub After-window-rest : Type 0
-After-window-rest = tie.After-window-rest
+After-window-rest = tie.After-window-rest invariant-loop-i decreases-loop-i
 
 abbrev pub After-struct_known-1 : Type 0
-After-struct_known-1 = tie.After-struct_known-1
+After-struct_known-1 = tie.After-struct_known-1 invariant-loop-i decreases-loop-i
 
 abbrev pub At-loop-i : Type 0
-At-loop-i = tie.At-loop-i
+At-loop-i = tie.At-loop-i invariant-loop-i decreases-loop-i
 
 abbrev pub In-loop-i : Type 0
-In-loop-i = tie.In-loop-i
+In-loop-i = tie.In-loop-i invariant-loop-i decreases-loop-i
 
 abbrev pub After-loop-i : Type 0
-After-loop-i = tie.After-loop-i
+After-loop-i = tie.After-loop-i invariant-loop-i decreases-loop-i
 
 abbrev pub Then-p-to : Type 0
-Then-p-to = tie.Then-p-to
+Then-p-to = tie.Then-p-to invariant-loop-i decreases-loop-i
 
 abbrev pub Else-p-to : Type 0
-Else-p-to = tie.Else-p-to
+Else-p-to = tie.Else-p-to invariant-loop-i decreases-loop-i
 
 abbrev pub After-keep-arg-1 : Type 0
-After-keep-arg-1 = tie.After-keep-arg-1
+After-keep-arg-1 = tie.After-keep-arg-1 invariant-loop-i decreases-loop-i
 
 abbrev pub After-keep-to : Type 0
-After-keep-to = tie.After-keep-to
+After-keep-to = tie.After-keep-to invariant-loop-i decreases-loop-i
 
 abbrev pub After-out-1 : Type 0
-After-out-1 = tie.After-out-1
+After-out-1 = tie.After-out-1 invariant-loop-i decreases-loop-i
 
 abbrev pub after-struct_known-1 :
     After-struct_known-1 →
