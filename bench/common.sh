@@ -31,12 +31,12 @@ find_archive() {
     need rt
     echo "$program: rt proves and builds the archive; the first time takes minutes" >&2
     mkdir -p "$root/target"
-    (cd "$root" && rt staticlib ncc_c) >"$root/target/archive.log" 2>&1 || {
+    (cd "$root/crates/ncc_c" && rt lib) >"$root/target/archive.log" 2>&1 || {
         cat "$root/target/archive.log" >&2
-        echo "$program: rt staticlib ncc_c failed" >&2
+        echo "$program: rt lib failed on ncc_c" >&2
         exit 1
     }
-    archive=$root/target/staticlib/libncc_c.a
+    archive=$root/crates/ncc_c/out/libncc_c.a
 }
 
 # The machine that the archive's code is for, in uname's words: two bytes at offset 18 of its first object file.

@@ -43,7 +43,8 @@
  * MEMORY
  *
  * The library uses the stack of its caller and no other writable memory. The most that a call was seen to use, in bytes,
- * on a painted stack, with the archive for x86-64 (`bench/memory --write` measures and fills in this table):
+ * on a painted stack, with the archive for x86-64 that the kit before today's made (`bench/memory --write` measures
+ * and fills in this table):
  *
  * stack table begins
  *     ncc_make_keys            83944

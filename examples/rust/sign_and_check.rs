@@ -1,8 +1,9 @@
 //! Makes keys from two fixed seeds, signs an event file, checks it, flips a bit and checks again.
 //!
-//! Build, from the repository's root, once `rt staticlib ncc_c` has written the archive:
+//! Build, from the repository's root, once `rt lib` in crates/ncc_c has written the archive:
 //!
-//!     rustc --edition 2021 -O -o target/sign_and_check_rust examples/rust/sign_and_check.rs -C link-arg=target/staticlib/libncc_c.a
+//!     mkdir -p target
+//!     rustc --edition 2021 -O -o target/sign_and_check_rust examples/rust/sign_and_check.rs -C link-arg=crates/ncc_c/out/libncc_c.a
 //!
 //! Run:
 //!

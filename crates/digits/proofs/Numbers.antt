@@ -1,7 +1,7 @@
 -- Digits and values are inverse, over the base; packing and unpacking are inverse, over the width. Assumes nothing.
 use mathlib.Core.Path.{◌≡◌, refl, sym, ap, ap₂, ◌∙◌}
 use mathlib.Core.List.{List, [], ◌∷◌}
-use Prim.Native.Nat.{ℕ, zero, suc, ◌+◌, ◌-◌, ◌*◌, ◌/◌, ◌%◌, ◌^◌, ◌≤◌, ◌<◌}
+use Prim.Native.Nat.{ℕ, zero, suc, ◌+◌, ◌*◌, ◌/◌, ◌%◌, ◌^◌, ◌≤◌, ◌<◌}
 use native.Mathlib.Nat.{lt_of_lt_of_le, mod-add-div, mod-lt, mod-eq_of_lt, div-eq_of_lt, div-one, div-lt_iff_lt-mul, div-div-eq-div-mul, add-mul-mod_self_left}
 use native.Mathlib.Nat.{add-mul-div_left, zero-add, add_comm, mul_comm, pow-zero, pow-suc, pow-succ', mul-zero, mul-suc}
 use native.Mathlib.Omega.{arith}

@@ -5,9 +5,10 @@
 ghost use Rattle.std.specs.Prelude.{◌≡◌};
 ghost use Rattle.ncc_check.specs.Input.{number_from};
 
-use libc::{STDIN_FILENO, STDOUT_FILENO};
 use sets::limits;
 use sets::set1::Set1;
+use std::io;
+use std::io::Read;
 
 // The key and the signature.
 const HEAD: usize = Set1::PUBLIC_KEY + Set1::SIGNATURE;
@@ -31,9 +32,8 @@ fn number(input: &[u8]) -> u32
     report.number
 }
 
-fn main() {
+fn main(rt: HostRuntime) -> io::Result<()> {
     let mut input = [0u8; INPUT];
-    let got = io::read_full(STDIN_FILENO, &mut input);
-    io::print_decimal(STDOUT_FILENO, number(&input[..got]) as u64);
-    io::write_all(STDOUT_FILENO, b"\n");
+    let got = io::copy(&mut rt.stdin().take(INPUT as u64), &mut &mut input[..])?;
+    println!(rt; "{}", number(&input[..INPUT.min(got as usize)]))
 }

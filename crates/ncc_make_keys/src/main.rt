@@ -8,9 +8,10 @@ ghost use Rattle.answers.specs.Result.{outcome};
 ghost use Rattle.ncc_make_keys.specs.Input.{keys_from};
 
 use answers::Answer;
-use libc::{STDIN_FILENO, STDOUT_FILENO};
 use sets::limits::SEED;
 use sets::set1::Set1;
+use std::io;
+use std::io::{Read, Write};
 
 // One byte more than two seeds have, so that a longer input is seen.
 const INPUT: usize = 2 * SEED + 1;
@@ -25,16 +26,16 @@ fn made(input: &[u8], public: &mut [u8], secret: &mut [u8]) -> Answer
     set1::make_keys(&input[..SEED], &input[SEED..], public, secret)
 }
 
-fn main() {
+fn main(rt: HostRuntime) -> io::Result<()> {
     let mut input = [0u8; INPUT];
     let mut public = [0u8; Set1::PUBLIC_KEY];
     let mut secret = [0u8; Set1::SECRET_KEY];
-    let got = io::read_full(STDIN_FILENO, &mut input);
-    let report = made(&input[..got], &mut public, &mut secret).report();
-    io::print_decimal(STDOUT_FILENO, report.number as u64);
-    io::write_all(STDOUT_FILENO, b"\n");
+    let got = io::copy(&mut rt.stdin().take(INPUT as u64), &mut &mut input[..])?;
+    let report = made(&input[..INPUT.min(got as usize)], &mut public, &mut secret).report();
+    println!(rt; "{}", report.number)?;
     if report.number == 0 {
-        io::write_all(STDOUT_FILENO, &public);
-        io::write_all(STDOUT_FILENO, &secret);
+        rt.stdout().write_all(&public)?;
+        rt.stdout().write_all(&secret)?;
     }
+    Ok(())
 }

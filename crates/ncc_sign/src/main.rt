@@ -8,9 +8,10 @@ ghost use Rattle.scheme.specs.Sign.{sign_outcome};
 ghost use Rattle.ncc_sign.specs.Input.{limit_in, signature_from};
 
 use answers::{Buffer, Refusal, Signing};
-use libc::{STDIN_FILENO, STDOUT_FILENO};
 use sets::limits;
 use sets::set1::Set1;
+use std::io;
+use std::io::{Read, Write};
 
 // The key and the limit.
 const HEAD: usize = Set1::SECRET_KEY + 4;
@@ -29,16 +30,14 @@ fn signed(input: &[u8], signature: &mut [u8]) -> Signing
     set1::sign(&input[..Set1::SECRET_KEY], &input[HEAD..], limit, signature)
 }
 
-fn main() {
+fn main(rt: HostRuntime) -> io::Result<()> {
     let mut input = [0u8; INPUT];
     let mut signature = [0u8; Set1::SIGNATURE];
-    let got = io::read_full(STDIN_FILENO, &mut input);
-    let report = signed(&input[..got], &mut signature).report();
-    io::print_decimal(STDOUT_FILENO, report.number as u64);
-    io::write_all(STDOUT_FILENO, b" ");
-    io::print_decimal(STDOUT_FILENO, report.tries as u64);
-    io::write_all(STDOUT_FILENO, b"\n");
+    let got = io::copy(&mut rt.stdin().take(INPUT as u64), &mut &mut input[..])?;
+    let report = signed(&input[..INPUT.min(got as usize)], &mut signature).report();
+    println!(rt; "{} {}", report.number, report.tries)?;
     if report.number == 0 {
-        io::write_all(STDOUT_FILENO, &signature);
+        rt.stdout().write_all(&signature)?;
     }
+    Ok(())
 }

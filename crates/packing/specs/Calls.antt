@@ -4,7 +4,7 @@ use Rattle.sets.specs.Set.{Set}
 use Rattle.answers.specs.declared.Buffer.TheVariants.{Coefficients, Packed}
 use Rattle.answers.specs.declared.Field.{Field}
 use Rattle.answers.specs.declared.Refusal.TheVariants.{Length, Coefficient, Hint}
-use Rattle.answers.specs.Result.{Result, done, ◌>>=◌, ◌>>◌, need}
+use Rattle.answers.specs.Result.{Result, done, ◌>>◌, need}
 use Rattle.layouts.specs.Layouts.{layout_of, hint_layout, holds, every, size, pack, unpack}
 use Rattle.layouts.specs.Hints.{ones, any_hint, read_hints}
 

@@ -45,22 +45,22 @@ abbrev answer_of : Used → Answer
 answer_of (High v) = Done
 answer_of (Refused r) = RefusedAnswer r
 
-abbrev used_of : Answer → ℕ → Used
-used_of Done v = High v
-used_of (RefusedAnswer r) v = Refused r
+abbrev used_from : Answer → ℕ → Used
+used_from Done v = High v
+used_from (RefusedAnswer r) v = Refused r
 
-read_back : (u : Used) → used_of (answer_of u) (used_report u).1 ≡ u
+read_back : (u : Used) → used_from (answer_of u) (used_report u).1 ≡ u
 read_back (High v) = refl
 read_back (Refused r) = refl
 
-report_of : (u : Used) → report_of (answer_of u) ≡ (used_report u).0
-report_of (High v) = refl
-report_of (Refused r) = refl
+report_is : (u : Used) → report_of (answer_of u) ≡ (used_report u).0
+report_is (High v) = refl
+report_is (Refused r) = refl
 
 used_one : (u v : Used) → used_report u ≡ used_report v → u ≡ v
 used_one u v e =
     sym (read_back u) ∙
-    ap₂ used_of (report_one (answer_of u) (answer_of v) (report_of u ∙ ap (λ r. r.0) e ∙ sym (report_of v))) (ap (λ r. r.1) e) ∙
+    ap₂ used_from (report_one (answer_of u) (answer_of v) (report_is u ∙ ap (λ r. r.0) e ∙ sym (report_is v))) (ap (λ r. r.1) e) ∙
     read_back v
 
 -- over remainders, for any set

@@ -19,7 +19,7 @@ const WORK: usize = workspace::PLACES * Set1::N;
 
 // Makes a key pair from two seeds.
 pub fn make_keys(zeta: &[u8], prime: &[u8], public: &mut [u8], secret: &mut [u8]) -> Answer
-    ensures { Is (outcome (make_keys set1 shake256 zeta.now prime.now public.entry.now secret.old) record { public = public.entry.now; secret = secret.old }) (report_of result) record { public = public.exit.now; secret = secret.new } }
+    ensures { Is (outcome (make_keys set1 shake256 zeta.now prime.now public.old secret.old) record { public = public.old; secret = secret.old }) (report_of result) record { public = public.new; secret = secret.new } }
 {
     let mut work = [0u32; WORK];
     keys::make_keys(Set1::numbers(), zeta, prime, public, secret, &mut work)

@@ -3,7 +3,9 @@
 
 ghost use Rattle.std.specs.Prelude.{◌≤◌};
 
-use libc::STDOUT_FILENO;
+use std::fs::File;
+use std::io;
+use std::io::Read;
 
 // The lengths of messages and of outputs: none, around a lane, around one and two blocks, and many blocks.
 const LENGTHS: [usize; 11] = [0, 1, 7, 8, 135, 136, 137, 271, 272, 273, 5000];
@@ -25,62 +27,53 @@ fn fill(m: &mut [u8]) {
 }
 
 // Whether the hash of the three parts, as long as `want`, is the next bytes of the file.
-fn compare(fd: i32, a: &[u8], b: &[u8], c: &[u8], out: &mut [u8], want: &mut [u8]) -> bool {
+fn compare(file: &mut File, a: &[u8], b: &[u8], c: &[u8], out: &mut [u8], want: &mut [u8]) -> bool {
     shake::shake256(a, b, c, out);
-    let got = io::read_full(fd, want);
-    if got != want.len() {
+    if file.read_exact(want).is_err() {
         return false;
     }
-    check::same(out, want)
+    *out == *want
 }
 
 // The same for `n` bytes.
-fn agrees(fd: i32, a: &[u8], b: &[u8], c: &[u8], n: usize) -> bool {
+fn agrees(file: &mut File, a: &[u8], b: &[u8], c: &[u8], n: usize) -> bool {
     let mut out = [0u8; MOST];
     let mut want = [0u8; MOST];
     if MOST < n {
         return false;
     }
-    compare(fd, a, b, c, &mut out[0..n], &mut want[0..n])
+    compare(file, a, b, c, &mut out[0..n], &mut want[0..n])
 }
 
 // Names a case that failed: the lengths of the message and of the output, and where the message was cut.
-fn tell(m: usize, n: usize, i: usize, j: usize) {
-    io::write_all(STDOUT_FILENO, b"FAIL: message of ");
-    io::print_decimal(STDOUT_FILENO, m as u64);
-    io::write_all(STDOUT_FILENO, b" bytes, output of ");
-    io::print_decimal(STDOUT_FILENO, n as u64);
-    io::write_all(STDOUT_FILENO, b", cut at ");
-    io::print_decimal(STDOUT_FILENO, i as u64);
-    io::write_all(STDOUT_FILENO, b" and ");
-    io::print_decimal(STDOUT_FILENO, j as u64);
-    io::write_all(STDOUT_FILENO, b"\n");
+fn tell(rt: &impl Print, m: usize, n: usize, i: usize, j: usize) {
+    let _ = println!(rt; "FAIL: message of {m} bytes, output of {n} bytes, cut at {i} and {j}");
 }
 
 // 1 where the hash of `m`, cut at `i` and `j`, is as expected, else 0.
-fn case(fd: i32, m: &[u8], i: usize, j: usize, n: usize) -> u64
+fn case(rt: &impl Print, file: &mut File, m: &[u8], i: usize, j: usize, n: usize) -> u64
     ensures { result ≤ 1 }
 {
     if i <= j {
         if j <= m.len() {
-            if agrees(fd, &m[0..i], &m[i..j], &m[j..], n) {
+            if agrees(file, &m[0..i], &m[i..j], &m[j..], n) {
                 return 1;
             }
         }
     }
-    tell(m.len(), n, i, j);
+    tell(rt, m.len(), n, i, j);
     0
 }
 
 // A message at every length of output, in one part.
-fn outputs(fd: i32, m: &[u8]) -> u64
+fn outputs(rt: &impl Print, file: &mut File, m: &[u8]) -> u64
     ensures { result ≤ 11 }
 {
     let lengths = LENGTHS;
     let mut right: u64 = 0;
     let mut k: usize = 0;
     while k < COUNT {
-        right += case(fd, m, m.len(), m.len(), lengths[k]);
+        right += case(rt, file, m, m.len(), m.len(), lengths[k]);
         k += 1;
     }
     right
@@ -122,74 +115,82 @@ fn second_cut(k: usize, n: usize) -> usize {
 }
 
 // A message cut in every way, at two hundred bytes of output.
-fn cuts(fd: i32, m: &[u8]) -> u64
+fn cuts(rt: &impl Print, file: &mut File, m: &[u8]) -> u64
     ensures { result ≤ 9 }
 {
     let mut right: u64 = 0;
     let mut k: usize = 0;
     while k < CUTS {
-        right += case(fd, m, first_cut(k, m.len()), second_cut(k, m.len()), 200);
+        right += case(
+            rt,
+            file,
+            m,
+            first_cut(k, m.len()),
+            second_cut(k, m.len()),
+            200,
+        );
         k += 1;
     }
     right
 }
 
 // The first `n` bytes of `m` as a message, in every way of cutting it or at every length of output.
-fn message(fd: i32, m: &[u8], n: usize, cut: bool) -> u64
+fn message(rt: &impl Print, file: &mut File, m: &[u8], n: usize, cut: bool) -> u64
     ensures { result ≤ 11 }
 {
     if m.len() < n {
         return 0;
     }
     if cut {
-        cuts(fd, &m[0..n])
+        cuts(rt, file, &m[0..n])
     } else {
-        outputs(fd, &m[0..n])
+        outputs(rt, file, &m[0..n])
     }
 }
 
 // Messages of every length.
-fn messages(fd: i32, m: &[u8], cut: bool) -> u64 {
+fn messages(rt: &impl Print, file: &mut File, m: &[u8], cut: bool) -> u64 {
     let lengths = LENGTHS;
     let mut right: u64 = 0;
     let mut k: usize = 0;
     while k < COUNT {
-        right += message(fd, m, lengths[k], cut);
+        right += message(rt, file, m, lengths[k], cut);
         k += 1;
     }
     right
 }
 
 // The examples of FIPS 202: no message, and 200 bytes 0xa3, at 512 bytes of output.
-fn examples(fd: i32) -> u64 {
+fn examples(rt: &impl Print, file: &mut File) -> u64 {
     let m = [0xa3u8; 200];
-    case(fd, b"", 0, 0, 512) + case(fd, &m, 200, 200, 512)
+    case(rt, file, b"", 0, 0, 512) + case(rt, file, &m, 200, 200, 512)
 }
 
 // A line for a group of cases: how many are right, of how many.
-fn total(what: &[u8], right: u64, all: u64) {
-    io::write_all(STDOUT_FILENO, what);
-    io::print_decimal(STDOUT_FILENO, right);
-    io::write_all(STDOUT_FILENO, b" of ");
-    io::print_decimal(STDOUT_FILENO, all);
-    io::write_all(STDOUT_FILENO, b"\n");
+fn total(rt: &impl Print, what: &str, right: u64, all: u64) -> io::Result<()> {
+    println!(rt; "{what}{right} of {all}")
 }
 
-fn main() {
-    let path = b"shake.bin";
-    let fd = os::open_read(path);
-    if fd < 0 {
-        os::fail(path);
-        return;
-    }
+fn main(rt: HostRuntime) -> io::Result<()> {
+    let mut file = File::open(&rt, "shake.bin")?;
     let mut m = [0u8; MOST];
     fill(&mut m);
-    total(b"SHAKE256, examples of FIPS 202: ", examples(fd), 2);
     total(
-        b"SHAKE256, message and output lengths: ",
-        messages(fd, &m, false),
+        &rt,
+        "SHAKE256, examples of FIPS 202: ",
+        examples(&rt, &mut file),
+        2,
+    )?;
+    total(
+        &rt,
+        "SHAKE256, message and output lengths: ",
+        messages(&rt, &mut file, &m, false),
         121,
-    );
-    total(b"SHAKE256, messages in parts: ", messages(fd, &m, true), 99);
-    libc::close(fd);
+    )?;
+    total(
+        &rt,
+        "SHAKE256, messages in parts: ",
+        messages(&rt, &mut file, &m, true),
+        99,
+    )
 }

@@ -44,16 +44,16 @@ pub(crate) fn agree(expected: &[u8], first: &[u8], second: &[u8]) -> bool {
     if expected.len() == DIGEST {
         let mut digest = [0u8; DIGEST];
         shake::shake256(first, second, b"", &mut digest);
-        return check::same(&digest, expected);
+        return &digest[..] == expected;
     }
     let n = first.len();
     if expected.len() < n {
         return false;
     }
-    if !check::same(&expected[0..n], first) {
+    if &expected[0..n] != first {
         return false;
     }
-    check::same(&expected[n..], second)
+    &expected[n..] == second
 }
 
 // The message of a seed: byte i is (i · (2 · (seed div 256) + 1) + i div 256 + seed mod 256) mod 256. `low` is the product mod 256.

@@ -7,8 +7,9 @@ mod record;
 
 ghost use Rattle.std.specs.Prelude.{◌≤◌};
 
-use libc::STDOUT_FILENO;
 use sets::limits;
+use std::fs::File;
+use std::io;
 
 const HEADER: usize = 48;
 
@@ -22,12 +23,8 @@ const MESSAGE: usize = limits::MESSAGE_MAX + 8;
 const MOST: u64 = 100000;
 
 // Names a record that differs.
-fn tell(at: u64, kind: u32) {
-    io::write_all(STDOUT_FILENO, b"FAIL: record ");
-    io::print_decimal(STDOUT_FILENO, at);
-    io::write_all(STDOUT_FILENO, b", kind ");
-    io::print_decimal(STDOUT_FILENO, kind as u64);
-    io::write_all(STDOUT_FILENO, b"\n");
+fn tell(rt: &impl Print, at: u64, kind: u32) {
+    let _ = println!(rt; "FAIL: record {at}, kind {kind}");
 }
 
 // Whether a record is as expected. Its bytes stand at the start of `body`.
@@ -54,6 +51,7 @@ fn holds(
 
 // 1 where the record is as expected, else 0.
 fn right(
+    rt: &impl Print,
     at: u64,
     h: &[u8],
     body: &[u8],
@@ -67,7 +65,7 @@ fn right(
     if holds(h, body, message, public, secret, signature) {
         return 1;
     }
-    tell(at, record::word(h, 0));
+    tell(rt, at, record::word(h, 0));
     0
 }
 
@@ -79,69 +77,66 @@ fn of_kind(kind: u32, wanted: u32, one: u64) -> u64
 }
 
 // A line for a kind: how many are right, of how many.
-fn total(what: &[u8], right: u64, all: u32) {
-    io::write_all(STDOUT_FILENO, what);
-    io::print_decimal(STDOUT_FILENO, right);
-    io::write_all(STDOUT_FILENO, b" of ");
-    io::print_decimal(STDOUT_FILENO, all as u64);
-    io::write_all(STDOUT_FILENO, b"\n");
+fn total(rt: &impl Print, what: &str, right: u64, all: u32) -> io::Result<()> {
+    println!(rt; "{what}: {right} of {all}")
 }
 
 // The last record says how many there are of each kind.
-fn totals(h: &[u8], keys: u64, signing: u64, checking: u64, patches: u64) {
-    total(b"key making: ", keys, record::word(h, 20));
-    total(b"signing: ", signing, record::word(h, 24));
-    total(b"checking: ", checking, record::word(h, 28));
-    total(b"patches: ", patches, record::word(h, 32));
+fn totals(
+    rt: &impl Print,
+    h: &[u8],
+    keys: u64,
+    signing: u64,
+    checking: u64,
+    patches: u64,
+) -> io::Result<()> {
+    total(rt, "key making", keys, record::word(h, 20))?;
+    total(rt, "signing", signing, record::word(h, 24))?;
+    total(rt, "checking", checking, record::word(h, 28))?;
+    total(rt, "patches", patches, record::word(h, 32))
 }
 
 // A file that was cut.
-fn no_last() {
-    io::write_all(STDOUT_FILENO, b"FAIL: the file has no last record\n");
+fn no_last(rt: &impl Print) -> io::Result<()> {
+    println!(rt; "FAIL: the file has no last record")
 }
 
 // Goes through the file, from record to record.
 fn records(
-    fd: i32,
+    rt: &impl Print,
+    file: &mut File,
     h: &mut [u8],
     body: &mut [u8],
     message: &mut [u8],
     public: &mut [u8],
     secret: &mut [u8],
     signature: &mut [u8],
-) {
+) -> io::Result<()> {
     let mut keys: u64 = 0;
     let mut signing: u64 = 0;
     let mut checking: u64 = 0;
     let mut patches: u64 = 0;
     let mut at: u64 = 0;
     while at < MOST {
-        if !record::read(fd, h, body) {
-            no_last();
-            return;
+        if !record::read(file, h, body) {
+            return no_last(rt);
         }
         let kind = record::word(h, 0);
         if kind == 0 {
-            totals(h, keys, signing, checking, patches);
-            return;
+            return totals(rt, h, keys, signing, checking, patches);
         }
-        let one = right(at, h, body, message, public, secret, signature);
+        let one = right(rt, at, h, body, message, public, secret, signature);
         keys += of_kind(kind, 1, one);
         signing += of_kind(kind, 2, one);
         checking += of_kind(kind, 3, one);
         patches += of_kind(kind, 4, one);
         at += 1;
     }
-    no_last();
+    no_last(rt)
 }
 
-fn main() {
-    let path = b"vectors.bin";
-    let fd = os::open_read(path);
-    if fd < 0 {
-        os::fail(path);
-        return;
-    }
+fn main(rt: HostRuntime) -> io::Result<()> {
+    let mut file = File::open(&rt, "vectors.bin")?;
     let mut h = [0u8; HEADER];
     let mut body = [0u8; BODY];
     let mut message = [0u8; MESSAGE];
@@ -149,13 +144,13 @@ fn main() {
     let mut secret = [0u8; calls::SECRET_ROOM];
     let mut signature = [0u8; calls::SIGNATURE_ROOM];
     records(
-        fd,
+        &rt,
+        &mut file,
         &mut h,
         &mut body,
         &mut message,
         &mut public,
         &mut secret,
         &mut signature,
-    );
-    libc::close(fd);
+    )
 }

@@ -26,7 +26,7 @@ same_length c = search rules
 returns : tie.Need-returns-in-Refused
 returns c =
     let at = no_a_drawn c in
-    no_a at.start.args.p at.start.args.zeta.now at.start.args.seeds.now _ _ _ at.a_filled.fill_a-a.ensures _ at.in-Refused-2.a-1.given.1
+    no_a at.start.args.p at.start.args.zeta.now at.start.args.seeds.now _ _ _ at.a_filled.fill_a-a.ensures _ c.in-Refused.is
 
 enum_told : tie.Need-enum_told-1
 enum_told c = search rules
@@ -46,8 +46,8 @@ same_length_2 c = search rules
 returns-2 : tie.Need-returns-in-Refused-s1
 returns-2 c =
     let at = no_s1_drawn c in
-    no_s1 at.start.args.p at.start.args.zeta.now at.start.args.seeds.now _ _ _ at.a_filled.fill_a-a.ensures at.a_drawn.enum_told-1.given.1 _ _
-    (rw at.after-of.of.ensures at at.s1_filled.fill_s-s1.ensures) _ at.in-Refused-s1-2.s1-1.given.1
+    no_s1 at.start.args.p at.start.args.zeta.now at.start.args.seeds.now _ _ _ at.a_filled.fill_a-a.ensures c.in_default.is _ _
+    (rw at.after-of.of.ensures at at.s1_filled.fill_s-s1.ensures) _ c.in-Refused-s1.is
 
 enum_told_2 : tie.Need-enum_told-in_default-s1
 enum_told_2 c = search rules
@@ -64,8 +64,8 @@ same_length_3 c = search rules
 returns-3 : tie.Need-returns
 returns-3 c =
     let at = done c in
-    drew_all at.start.args.p at.start.args.zeta.now at.start.args.seeds.now _ _ _ at.a_filled.fill_a-a.ensures at.a_drawn.enum_told-1.given.1 _ _
-    (rw at.after-of.of.ensures at at.s1_filled.fill_s-s1.ensures) at.s1_drawn.enum_told-in_default-s1-1.given.1 _ _
+    drew_all at.start.args.p at.start.args.zeta.now at.start.args.seeds.now _ _ _ at.a_filled.fill_a-a.ensures c.in_default.is _ _
+    (rw at.after-of.of.ensures at at.s1_filled.fill_s-s1.ensures) c.in_default-s1.is _ _
     (rw at.after-of-2.of-2.ensures at at.s2_filled.fill_s.ensures)
 
 pub draw_spec : {M : Type 1} → statement M

@@ -13,7 +13,6 @@ use Places.{refused, after-round-arg-1, after-both-arg-2-1, done}
 
 -- place drew = After-draw-drawn
 -- place refused = In-Refused
--- place told = In-Refused-2
 -- place drawn = In_default
 -- place rounded = After-round
 -- place written = After-both
@@ -31,7 +30,7 @@ same_length c = search rules
 returns : tie.Need-returns-in-Refused
 returns c =
     let at = refused c in
-    refusing _ _ _ (pair_refused at.start.args.p at.start.args.zeta.now at.start.args.seeds.now _ ((at.drew.draw-drawn.ensures).ill _ at.told.drawn-1.given.1))
+    refusing _ _ _ (pair_refused at.start.args.p at.start.args.zeta.now at.start.args.seeds.now _ ((at.drew.draw-drawn.ensures).ill _ c.in-Refused.is))
 
 enum_told : tie.Need-enum_told-1
 enum_told c = search rules
@@ -39,7 +38,7 @@ enum_told c = search rules
 round_requires : tie.Need-round-requires
 round_requires c κs =
     let at = after-round-arg-1 c in
-    let d = (at.drew.draw-drawn.ensures).well at.drawn-1.enum_told-1.given.1 in
+    let d = (at.drew.draw-drawn.ensures).well c.in_default.is in
     (at.start.requires.0.0, drawn_ready at.start.args.p at.start.requires.0.0 d.0 _ (omega (arith, at.start.requires.0.1, at.drew.draw-drawn.auto.work)) d.2)
 
 of_requires : tie.Need-of-requires
@@ -48,7 +47,7 @@ of_requires c κs = search rules
 both_requires : tie.Need-both-requires
 both_requires c κs =
     let at = after-both-arg-2-1 c in
-    let d = (at.drew.draw-drawn.ensures).well at.drawn-1.enum_told-1.given.1 in
+    let d = (at.drew.draw-drawn.ensures).well c.in_default.is in
     let seeds = at.start.args.seeds.now in (
       (at.start.requires.0.0, omega (arith, at.start.requires.0.1, at.drew.draw-drawn.auto.work, at.rounded.round.auto.work)),
       (
@@ -72,7 +71,7 @@ same_length_4 c = search rules
 returns-2 : tie.Need-returns
 returns-2 c =
     let at = done c in
-    let d = (at.drew.draw-drawn.ensures).well at.drawn-1.enum_told-1.given.1 in
+    let d = (at.drew.draw-drawn.ensures).well c.in_default.is in
     doing _ _ _ _
     (pair_made at.start.args.p at.start.args.zeta.now at.start.args.seeds.now d.0 d.1 at.start.requires.0.0 _ (at.rounded.round.ensures d.0 d.2) _ _ _
     at.after-of.of.ensures at.written.both.ensures.0 at.written.both.ensures.1) refl

@@ -14,7 +14,7 @@ above_half_requires c κs = search rules
 difference_requires : tie.Need-difference-requires
 difference_requires c κs =
     let a = c.args in
-    (omega arith, omega (arith, c.above_half.ensures, taken_most a.q a.x))
+    (omega (arith, c.above_half.ensures, taken_most a.q a.x), omega (arith, c.above_half.ensures, taken_most a.q a.x))
 
 returns : tie.Need-returns
 returns c =

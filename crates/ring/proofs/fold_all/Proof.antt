@@ -1,10 +1,7 @@
 -- Every coefficient is folded in, walked. Places are named below; `places ring fold_all` makes Proof/Places.antt of the names.
 -- place cleared = After-clear_numbers: the output holds zeros
 -- place begins = After-slice_known-2-1
--- place head = At-loop-e
 -- place turn = In-loop-e
--- place ended = After-loop-e
--- place read = After-shared_slice_known-in-loop-e-1
 -- place reduced = After-modulo-c: the coefficient is reduced
 -- place to_fold = After-fold_in-arg-1
 -- place folded = After-fold_in: and added
@@ -20,7 +17,7 @@ use borrow.Author.Rules.{rules}
 use Rattle.ring.proofs.fold_all.Statement.{statement}
 use Rattle.ring.proofs.fold_all.Tie as tie
 use Invariants.{invariant-loop-e, decreases-loop-e}
-use Places.{begins, ended, read, to_fold, turned}
+use Places.{begins, to_fold, turned}
 
 none : {n : ℕ} → 0 ≤ n
 none = omega arith
@@ -55,13 +52,13 @@ shared_slice_read_modulo : tie.Need-bounds-sums-e invariant-loop-e decreases-loo
 shared_slice_read_modulo c = search rules
 
 modulo_requires : tie.Need-modulo-c-requires invariant-loop-e decreases-loop-e
-modulo_requires c κs = q_some _ (read c).head.loop-e.inv.0
+modulo_requires c κs = q_some _ c.loop-e.invariant.0
 
 fold_in_requires : tie.Need-fold_in-requires invariant-loop-e decreases-loop-e
 fold_in_requires c κs =
-    let l = (to_fold c).head.loop-e in
-    let below = rw l.inv.2 at (to_fold c).turn.loop-e-test.taken in
-    rw (l.inv.1, (to_fold c).reduced.modulo-c.ensures) (can_fold _ l.inv.0 _ _ l.e l.inv.5 below)
+    let l = c.loop-e in
+    let below = rw l.invariant.2 at (to_fold c).turn.loop-e-test.true in
+    rw (l.invariant.1, (to_fold c).reduced.modulo-c.ensures) (can_fold _ l.invariant.0 _ _ l.e l.invariant.5 below)
 
 add_e : tie.Need-overflow_add-e invariant-loop-e decreases-loop-e
 add_e c = search rules
@@ -71,18 +68,18 @@ loop-less c = search rules
 
 loop-again : tie.Need-loop-e-preserved invariant-loop-e decreases-loop-e
 loop-again c =
-    let l = (turned c).head.loop-e in
-    let added = rw (l.inv.1, (turned c).reduced.modulo-c.ensures) at (turned c).folded.fold_in.ensures in
-    let further = one_more (turned c).turn.loop-e-test.taken in
-    (l.inv.0, l.inv.1, l.inv.2, l.inv.3, further, reached_more _ l.inv.0 _ _ _ l.e l.inv.5 added)
+    let l = c.loop-e in
+    let added = rw (l.invariant.1, (turned c).reduced.modulo-c.ensures) at (turned c).folded.fold_in.ensures in
+    let further = one_more (turned c).turn.loop-e-test.true in
+    (l.invariant.0, l.invariant.1, l.invariant.2, l.invariant.3, further, reached_more _ l.invariant.0 _ _ _ l.e l.invariant.5 added)
 
 same_length : tie.Need-shape_of-out invariant-loop-e decreases-loop-e
 same_length c = search rules
 
 returns : tie.Need-returns invariant-loop-e decreases-loop-e
 returns c =
-    let l = (ended c).head.loop-e in
-    reached_all _ l.inv.0 _ _ l.e l.inv.5 (at_end _ _ _ l.inv.2 l.inv.4 c.loop-e-test.false)
+    let l = c.loop-e in
+    reached_all _ l.invariant.0 _ _ l.e l.invariant.5 (at_end _ _ _ l.invariant.2 l.invariant.4 c.loop-e-test.false)
 
 pub fold_all_spec : {M : Type 1} → statement M
 fold_all_spec =

@@ -25,8 +25,8 @@ clear_words_requires c κs = search rules
 
 rows_requires : tie.Need-rows-requires
 rows_requires c κs =
-    let given = (to_rows c).start.requires in
-    let words = length (to_rows c).start.args.sums.now in
+    let given = c.requires in
+    let words = length c.args.sums.now in
     can_sum _ given.0 _ _ given.1.0.0 given.1.0.1 _ _ (to_rows c).pad_done.pad.ensures (search rules)
     (λ e. ap (λ (xs : List ℕ). get_or xs e 0) (to_rows c).cleared.clear_words.ensures ∙ at_zeros words e)
 

@@ -30,19 +30,19 @@ use native.Mathlib.Omega.{arith}
 use Rattle.ring.proofs.rows.Statement.{statement}
 use Rattle.ring.proofs.rows.Tie as tie
 use Invariants.{invariant-loop-next, decreases-loop-next}
-use Places.{begins, Head, head, Turn, turn, ended, some, First, first, Second, second, Third, third, first_read, SecondRead, second_read}
+use Places.{begins, Head, Turn, turn, ended, some, First, first, Second, second, Third, third, FirstRead, first_read, SecondRead, second_read}
 use Places.{ThirdRead, third_read, to_four, four_turned, to_one, one_turned, zero}
 
 -- ---- what the walk speaks of
 abbrev factor : (c : Head) → List ℕ
-factor c = (head c).start.args.a.now
+factor c = c.args.a.now
 
 -- no row was in the sums at the start, and there is room for all of them
-abbrev unsummed : (c : Head) → Unsummed (factor c) (head c).start.args.b.now (head c).start.args.sums.now
+abbrev unsummed : (c : Head) → Unsummed (factor c) c.args.b.now c.args.sums.now
 unsummed c = c.loop-next.invariant.0
 
 -- the turn is at one of the factor's places, of which there are at most 4096
-few : (c : Turn) → (turn c).head.loop-next.next < 4096
+few : (c : Turn) → c.loop-next.next < 4096
 few c = below c.loop-next-test.true (unsummed (turn c).head).most
   where
     below : {i n : ℕ} → i < n → n ≤ 4096 → i < 4096
@@ -108,7 +108,7 @@ add_next_2 : tie.Need-overflow_add-next-then-a0-gt0 invariant-loop-next decrease
 add_next_2 c = omega (arith, few (third_read c).turn, (third_read c).third.past_zeros-i3.ensures.most)
 
 -- ---- each of the three is a number of the factor
-first_small : (c : First-read) → c.coefficient-a1.result < 2 ^ 25
+first_small : (c : FirstRead) → c.coefficient-a1.result < 2 ^ 25
 first_small c = rw c.coefficient-a1.ensures ((unsummed (first_read c).head).left (first_read c).first.past_zeros-i1.result)
 
 second_small : (c : SecondRead) → c.coefficient-a2.result < 2 ^ 25
@@ -143,13 +143,13 @@ later i l = omega arith
 and_later : {i : ℕ} (j : ℕ) {k : ℕ} → i < j → j + 1 ≤ k → i < k
 and_later j l m = omega arith
 
-first_later : (c : First) → (first c).head.loop-next.next < c.past_zeros-i1.result
-first_later c = later (first c).head.loop-next.next c.past_zeros-i1.ensures.start
+first_later : (c : First) → c.loop-next.next < c.past_zeros-i1.result
+first_later c = later c.loop-next.next c.past_zeros-i1.ensures.start
 
-second_later : (c : Second) → (second c).head.loop-next.next < c.past_zeros-i2.result
+second_later : (c : Second) → c.loop-next.next < c.past_zeros-i2.result
 second_later c = and_later (second c).first.past_zeros-i1.result (first_later (second c).first) c.past_zeros-i2.ensures.start
 
-third_later : (c : Third) → (third c).head.loop-next.next < c.past_zeros-i3.result
+third_later : (c : Third) → c.loop-next.next < c.past_zeros-i3.result
 third_later c = and_later (third c).second.past_zeros-i2.result (second_later (third c).second) c.past_zeros-i3.ensures.start
 
 add_rows_requires : tie.Need-add_rows-requires invariant-loop-next decreases-loop-next
@@ -158,7 +158,7 @@ add_rows_requires c κs =
     let l = at.head.loop-next in
     let U = unsummed at.head in (
       (
-        room _ _ _ U l.next l.sums l.inv.1 at.turn.loop-next-test.taken,
+        room _ _ _ U l.next l.sums l.invariant.1 at.turn.loop-next-test.true,
         near (first_later at.first),
         near (second_later at.second),
         near (third_later at.third),
@@ -171,7 +171,7 @@ falls : {i j n : ℕ} → i < n → i < j → n - (j + 1) < n - i
 falls l m = omega arith
 
 loop-less : tie.Need-loop-next-smaller-then-a1-a2-gt0 invariant-loop-next decreases-loop-next
-loop-less c = let at = four_turned c in falls at.turn.loop-next-test.taken (third_later at.third)
+loop-less c = let at = four_turned c in falls at.turn.loop-next-test.true (third_later at.third)
 
 loop-again : tie.Need-loop-next-preserved-then-a1-a2-gt0 invariant-loop-next decreases-loop-next
 loop-again c =
@@ -182,7 +182,7 @@ loop-again c =
     at.four_done.add_rows.ensures in (
       U,
       sofar_four _ _ _ U l.next _ _ _ at.first.past_zeros-i1.ensures at.second.past_zeros-i2.ensures at.third.past_zeros-i3.ensures
-          l.sums _ l.inv.1 added,
+          l.sums _ l.invariant.1 added,
     )
 
 -- ---- one row
@@ -191,10 +191,10 @@ add_row_requires c κs =
     let at = to_one c in
     let l = at.head.loop-next in
     let U = unsummed at.head in
-    (room _ _ _ U l.next l.sums l.inv.1 at.turn.loop-next-test.taken, U.left l.next)
+    (room _ _ _ U l.next l.sums l.invariant.1 at.turn.loop-next-test.true, U.left l.next)
 
 loop-less-2 : tie.Need-loop-next-smaller-else-a1-a2-gt0 invariant-loop-next decreases-loop-next
-loop-less-2 c = let at = one_turned c in falls at.turn.loop-next-test.taken (third_later at.third)
+loop-less-2 c = let at = one_turned c in falls at.turn.loop-next-test.true (third_later at.third)
 
 loop-again-2 : tie.Need-loop-next-preserved-else-a1-a2-gt0 invariant-loop-next decreases-loop-next
 loop-again-2 c =
@@ -202,10 +202,10 @@ loop-again-2 c =
     let l = at.head.loop-next in
     let U = unsummed at.head in
     let z = zeros at.first_read.coefficient-a1.ensures at.second_read.coefficient-a2.ensures at.third_read.coefficient-a3.ensures
-    at.alone.if-a1-a2-gt0.left in (
+    at.alone.if-a1-a2-gt0.false in (
       U,
       sofar_one _ _ _ U l.next _ _ _ at.first.past_zeros-i1.ensures at.second.past_zeros-i2.ensures at.third.past_zeros-i3.ensures
-          l.sums _ l.inv.1 z.0 z.1 z.2 at.one_done.add_row.ensures,
+          l.sums _ l.invariant.1 z.0 z.1 z.2 at.one_done.add_row.ensures,
     )
 
 -- ---- none
@@ -214,17 +214,17 @@ loop-less-3 c = search rules
 
 loop-again-3 : tie.Need-loop-next-preserved invariant-loop-next decreases-loop-next
 loop-again-3 c =
-    let l = (zero c).head.loop-next in
+    let l = c.loop-next in
     let U = unsummed (zero c).head in
-    (U, sofar_skip _ _ _ U l.next l.sums l.inv.1 (omega (arith, c.if-a0-gt0.false)))
+    (U, sofar_skip _ _ _ U l.next l.sums l.invariant.1 (omega (arith, c.if-a0-gt0.false)))
 
 same_length : tie.Need-shape_of-sums invariant-loop-next decreases-loop-next
 same_length c = search rules
 
 returns : tie.Need-returns invariant-loop-next decreases-loop-next
 returns c =
-    let l = (ended c).head.loop-next in
-    sofar_all _ _ _ (unsummed (ended c).head) l.next l.sums l.inv.1 c.loop-next-test.false
+    let l = c.loop-next in
+    sofar_all _ _ _ (unsummed (ended c).head) l.next l.sums l.invariant.1 c.loop-next-test.false
 
 pub rows_spec : {M : Type 1} → statement M
 rows_spec =

@@ -18,6 +18,7 @@
 -- place z_loop = At-z
 -- place z_passed = Then-p-i: each coefficient of z is small
 -- place z_bound = After-struct_known-in-z-1
+-- place z_unread = After-slice_known-in-z-1-unread
 -- place z_read = After-slice_known-in-z-1
 -- place z_over = Then-p-magnitude: one is too large
 -- place z_under = Else-p-magnitude: this one is small
@@ -26,6 +27,7 @@
 -- place low_loop = At-low
 -- place low_passed = Then-p-j: each of its low parts is small
 -- place low_bound = After-struct_known-in-low-2-1
+-- place low_unread = After-slice_known-in-low-1-unread
 -- place low_read = After-slice_known-in-low-1
 -- place low_over = Then-p-low_of
 -- place low_under = Else-p-low_of
@@ -34,6 +36,7 @@
 -- place ct0_loop = At-ct0
 -- place ct0_passed = Then-p-k: each coefficient of c·t0 is small
 -- place ct0_index = Else-p-k
+-- place ct0_unread = After-slice_known-in-ct0-1-unread
 -- place ct0_read = After-slice_known-in-ct0-1
 -- place ct0_tested = After-magnitude-in-ct0
 -- place ct0_over = Then-p-magnitude-2
@@ -76,10 +79,11 @@ use Rattle.tries.proofs.Trying.{hint_values, hint_bit, first_stop, first_end}
 use Rattle.tries.proofs.first_passing.Statement.{statement}
 use Rattle.tries.proofs.first_passing.Tie as tie
 use Invariants.{invariant-z, decreases-z, invariant-low, decreases-low, invariant-ct0, decreases-ct0, invariant-tries, decreases-tries}
-use Places.{Start, start, ct0_span, Head, head, spent, Begins, begins, to_mask, mask_done, to_commit, CommitDone, commit_done, to_fill, Drawn}
-use Places.{drawn, dry, to_respond, RespondDone, respond_done, ZPassed, z_passed, z_bound, z_read, ZOver, z_over, z_under, to_rest, RestDone}
-use Places.{rest_done, LowPassed, low_passed, low_bound, low_read, LowOver, low_over, low_under, to_ct0, Ct0Done, ct0_done, Ct0Passed}
-use Places.{ct0_passed, ct0_index, ct0_read, Ct0Over, ct0_over, ct0_under, to_hints, HintsDone, hints_done, to_ones, ones_over, Passed, passed}
+use Places.{Start, start, ct0_span, Head, head, spent, Begins, begins, to_mask, MaskDone, mask_done, to_commit, CommitDone, commit_done}
+use Places.{to_fill, FillDone, Drawn, drawn, dry, to_respond, RespondDone, respond_done, ZPassed, z_passed, z_bound, z_unread, z_read, ZOver}
+use Places.{z_over, z_under, to_rest, RestDone, rest_done, LowPassed, low_passed, low_bound, low_unread, low_read, LowOver, low_over}
+use Places.{low_under, to_ct0, Ct0Done, ct0_done, Ct0Passed, ct0_passed, ct0_index, ct0_unread, ct0_read, Ct0Over, ct0_over, ct0_under}
+use Places.{to_hints, HintsDone, hints_done, to_ones, OnesOver, ones_over, Passed, passed}
 
 -- ---- what the walk speaks of
 abbrev suits : (s : Start) → Trinomial s.args.p
@@ -118,7 +122,7 @@ abbrev Hints : Head → List ℤ → List ℤ
 Hints t c = let s = (head t).start in hints s.args.p (signer s) (w_of s.args.p (signer s) t.tries.next) c
 
 -- the memory after each stage
-abbrev mask_work : Mask-done → List ℕ
+abbrev mask_work : MaskDone → List ℕ
 mask_work c = c.mask.new.work
 
 abbrev commit_work : CommitDone → List ℕ
@@ -127,7 +131,7 @@ commit_work c = c.commit_to.new.work
 abbrev commitment : CommitDone → List ℕ
 commitment c = c.commit_to.new.commitment
 
-abbrev draw_work : Fill-done → List ℕ
+abbrev draw_work : FillDone → List ℕ
 draw_work c = c.fill_c.new.work
 
 abbrev z_work : RespondDone → List ℕ
@@ -144,7 +148,7 @@ hints_work c = c.combine.new.work
 
 -- ---- what holds in any try
 ready : (t : Head) → Ready (head t).start.args.p place.T0 t.tries.work
-ready t = trying_ready (suits (head t).start) (key_there (head t).start) t.tries.inv
+ready t = trying_ready (suits (head t).start) (key_there (head t).start) t.tries.invariant
 
 room : (t : Head) (work : List ℕ) → Long t work → Room (head t).start.args.p work
 room t work l = omega (arith, (ready t).room)
@@ -167,16 +171,16 @@ next-try :
     Trying s.args.p s.args.mu.now s.args.rho.now s.args.limit s.args.work.now s.args.commitment.now more last ((begins b).head.tries.next + 1)
 next-try b c m e f u k l =
     let at = begins b in
-    trying_more (suits at.start) (key_there at.start) at.head.tries.inv c m b.if-limit-next.left e f u k l
+    trying_more (suits at.start) (key_there at.start) at.head.tries.invariant c m b.if-limit-next.false e f u k l
 
 -- ---- what each stage of a try has
-mask_long : (c : Mask-done) → Long (mask_done c).head (mask_work c)
+mask_long : (c : MaskDone) → Long (mask_done c).head (mask_work c)
 mask_long c = c.mask.ensures.1
 
-mask_held : (c : Mask-done) → Held (mask_done c).head [] place.W (mask_work c)
+mask_held : (c : MaskDone) → Held (mask_done c).head [] place.W (mask_work c)
 mask_held c =
     let at = mask_done c in
-    c.mask.ensures.0 (signer at.start) refl (trying_key (suits at.start) (key_there at.start) at.head.tries.inv)
+    c.mask.ensures.0 (signer at.start) refl (trying_key (suits at.start) (key_there at.start) at.head.tries.invariant)
 
 begun_at : (c : CommitDone) → let at = commit_done c in Begun at.start.args.p (signer at.start) at.head.tries.next (commit_work c) (commitment c)
 begun_at c =
@@ -187,7 +191,7 @@ begun_long : (c : CommitDone) → Long (commit_done c).head (commit_work c)
 begun_long c = c.commit_to.ensures.0.long ∙ mask_long (commit_done c).mask_done
 
 commitment_long : (c : CommitDone) → length (commitment c) ≡ length (commit_done c).head.tries.commitment
-commitment_long c = c.commit_to.auto.1.1.1.0
+commitment_long c = c.commit_to.auto.commitment
 
 drew-at :
     (c : Drawn) →
@@ -196,7 +200,7 @@ drew-at :
 drew-at c =
     let at = drawn c in
     drew_one (begun_at at.commit_done) (draw_work at.fill_done) at.fill_done.fill_c.result at.fill_done.fill_c.ensures
-    c.enum_told-1.given.1
+    c.in-Done.is
 
 drew_long : (c : Drawn) → Long (drawn c).head (draw_work (drawn c).fill_done)
 drew_long c = (drew-at c).long ∙ begun_long (drawn c).commit_done
@@ -213,7 +217,7 @@ z_small : (c : ZPassed) → let at = z_passed c in SmallZ at.head (drew-at at.dr
 z_small c =
     centring_small (z_passed c).start.args.p (suits (z_passed c).start) _ (z_passed c).z_span.span-z.ensures.starts (z_held (z_passed c).respond_done place.Z (lit≤ tt))
     ((z_passed c).start.args.p.gamma1 - (z_passed c).start.args.p.beta) (omega (arith, (suits (z_passed c).start).good.beta1))
-    (λ i l. (z_passed c).z_loop.z.inv.1 i (omega (arith, c.if-p-i.true)))
+    (λ i l. (z_passed c).z_loop.z.invariant.1 i (omega (arith, c.if-p-i.true)))
 
 rest_held : (c : RestDone) → let at = rest_done c in Held at.head (drew-at at.drawn).c place.Rest (rest_work c)
 rest_held c =
@@ -227,7 +231,7 @@ low_is_small : (c : LowPassed) → let at = low_passed c in SmallLow at.head (dr
 low_is_small c =
     low_small (low_passed c).start.args.p (suits (low_passed c).start) _ (low_passed c).low_span.span-low.ensures.starts (rest_held (low_passed c).rest_done place.Rest (lit≤ tt))
     ((low_passed c).start.args.p.gamma2 - (low_passed c).start.args.p.beta) (omega (arith, (suits (low_passed c).start).good.beta2))
-    (λ i l. (low_passed c).low_loop.low.inv.1 i (omega (arith, c.if-p-j.true)))
+    (λ i l. (low_passed c).low_loop.low.invariant.1 i (omega (arith, c.if-p-j.true)))
 
 ct0_held : (c : Ct0Done) → let at = ct0_done c in Held at.head (drew-at at.drawn).c place.Ct0 (ct0_work c)
 ct0_held c =
@@ -241,7 +245,7 @@ ct0_small : (c : Ct0Passed) → let at = ct0_passed c in SmallCt0 at.head (drew-
 ct0_small c =
     norm_small (ct0_passed c).start.args.p (suits (ct0_passed c).start) _ (ct0_passed c).ct0_span.span-ct0.ensures.starts (ct0_held (ct0_passed c).ct0_done place.Ct0 (lit≤ tt))
     (ct0_passed c).start.args.p.gamma2 (omega (arith, (suits (ct0_passed c).start).good.beta2))
-    (λ i l. (ct0_passed c).ct0_loop.ct0.inv.1 i (omega (arith, c.if-p-k.true)))
+    (λ i l. (ct0_passed c).ct0_loop.ct0.invariant.1 i (omega (arith, c.if-p-k.true)))
 
 hints_held : (c : HintsDone) → let at = hints_done c in Held at.head (drew-at at.drawn).c place.Hints (hints_work c)
 hints_held c =
@@ -292,7 +296,7 @@ ct0-large c =
     (ct0_over c).start.args.p.gamma2 (ct0_over c).ct0_loop.ct0.k (omega arith)
     (omega (arith, c.if-p-magnitude-2.true, (ct0_over c).ct0_tested.magnitude-in-ct0.ensures))
 
-ones_many : (c : Ones-over) → let at = ones_over c in at.start.args.p.omega < ones (Hints at.head (drew-at at.drawn).c)
+ones_many : (c : OnesOver) → let at = ones_over c in at.start.args.p.omega < ones (Hints at.head (drew-at at.drawn).c)
 ones_many c = omega (arith, c.if-p-count_ones.true, (ones_over c).ones_done.count_ones.ensures, ap ones (hints_are (ones_over c).hints_done))
 
 ones_few : (c : Passed) → let at = passed c in ones (Hints at.head (drew-at at.drawn).c) ≤ at.start.args.p.omega
@@ -323,7 +327,7 @@ mask_requires c κs = ((suits (to_mask c).start, ready (to_mask c).head), omega 
 commit_to_requires : tie.Need-commit_to-requires invariant-z decreases-z invariant-low decreases-low invariant-ct0 decreases-ct0 invariant-tries decreases-tries
 commit_to_requires c κs =
     let at = to_commit c in
-    ((suits at.start, ready_at at.head [] place.W (mask_long at.mask_done) (mask_held at.mask_done)), at.head.tries.inv.long_c ∙ at.start.requires.1.1)
+    ((suits at.start, ready_at at.head [] place.W (mask_long at.mask_done) (mask_held at.mask_done)), at.head.tries.invariant.long_c ∙ at.start.requires.1.1)
 
 fill_c_requires : tie.Need-fill_c-requires invariant-z decreases-z invariant-low decreases-low invariant-ct0 decreases-ct0 invariant-tries decreases-tries
 fill_c_requires c κs =
@@ -337,14 +341,14 @@ enum_told_2 : tie.Need-enum_told-in_default invariant-z decreases-z invariant-lo
 enum_told_2 c = search rules
 
 tries_less : tie.Need-tries-smaller-in_default invariant-z decreases-z invariant-low decreases-low invariant-ct0 decreases-ct0 invariant-tries decreases-tries
-tries_less c = omega (arith, (dry c).begins.if-limit-next.left)
+tries_less c = omega (arith, (dry c).begins.if-limit-next.false)
 
 tries_again : tie.Need-tries-preserved-in_default invariant-z decreases-z invariant-low decreases-low invariant-ct0 decreases-ct0 invariant-tries decreases-tries
 tries_again c =
     let at = dry c in
     let n =
     drew_none (begun_at at.commit_done) (draw_work at.fill_done) at.fill_done.fill_c.result at.fill_done.fill_c.ensures
-    _ c.enum_told-in_default-1.given.1 in
+    _ c.in_default.is in
     next-try at.begins [] place.W (try_dry (begun_at at.commit_done) n.0) (lit≤ tt) n.1 (n.2 ∙ begun_long at.commit_done) (commitment_long at.commit_done)
 
 respond_requires : tie.Need-respond-requires invariant-z decreases-z invariant-low decreases-low invariant-ct0 decreases-ct0 invariant-tries decreases-tries
@@ -366,14 +370,14 @@ mul_magnitude c = omega (arith, (z_bound c).z_span.span-z.ensures.most, (z_bound
 
 slice_read_magnitude : tie.Need-bounds-work-z invariant-z decreases-z invariant-low decreases-low invariant-ct0 decreases-ct0 invariant-tries decreases-tries
 slice_read_magnitude c =
-    at_place (z_read c).head (z_work (z_read c).respond_done) (z_long (z_read c).respond_done) place.Z _ (z_read c).z_span.span-z.ensures.starts (z_read c).z_loop.z.i (omega arith)
+    at_place (z_unread c).head (z_work (z_unread c).respond_done) (z_long (z_unread c).respond_done) place.Z _ (z_unread c).z_span.span-z.ensures.starts (z_unread c).z_loop.z.i (omega arith)
 
 magnitude_requires : tie.Need-magnitude-requires invariant-z decreases-z invariant-low decreases-low invariant-ct0 decreases-ct0 invariant-tries decreases-tries
 magnitude_requires c κs =
     below_place (z_read c).start.args.p (suits (z_read c).start) _ (z_read c).z_span.span-z.ensures.starts (z_held (z_read c).respond_done place.Z (lit≤ tt)) (z_read c).z_loop.z.i (omega arith)
 
 tries_less_2 : tie.Need-tries-smaller-then-p-magnitude invariant-z decreases-z invariant-low decreases-low invariant-ct0 decreases-ct0 invariant-tries decreases-tries
-tries_less_2 c = omega (arith, (z_over c).begins.if-limit-next.left)
+tries_less_2 c = omega (arith, (z_over c).begins.if-limit-next.false)
 
 tries_again_2 : tie.Need-tries-preserved-then-p-magnitude invariant-z decreases-z invariant-low decreases-low invariant-ct0 decreases-ct0 invariant-tries decreases-tries
 tries_again_2 c =
@@ -392,7 +396,7 @@ z_again c = (
   omega arith,
   bound_more
       (λ (t : ℕ). nat_abs (signed (z_under c).start.args.p.q (get_or (z_work (z_under c).respond_done) ((z_under c).z_span.span-z.result.start + t) 0)))
-      ((z_under c).start.args.p.gamma1 - (z_under c).start.args.p.beta) (z_under c).z_loop.z.i (z_under c).z_loop.z.inv.1
+      ((z_under c).start.args.p.gamma1 - (z_under c).start.args.p.beta) (z_under c).z_loop.z.i (z_under c).z_loop.z.invariant.1
       (omega (arith, c.if-p-magnitude.false, c.magnitude.ensures)),
 )
 
@@ -415,7 +419,7 @@ mul_low_of c = omega (arith, (low_bound c).low_span.span-low.ensures.most, (low_
 
 slice_read_low_of : tie.Need-bounds-work-low invariant-z decreases-z invariant-low decreases-low invariant-ct0 decreases-ct0 invariant-tries decreases-tries
 slice_read_low_of c =
-    at_place (low_read c).head (rest_work (low_read c).rest_done) (rest_long (low_read c).rest_done) place.Rest _ (low_read c).low_span.span-low.ensures.starts (low_read c).low_loop.low.j
+    at_place (low_unread c).head (rest_work (low_unread c).rest_done) (rest_long (low_unread c).rest_done) place.Rest _ (low_unread c).low_span.span-low.ensures.starts (low_unread c).low_loop.low.j
     (omega arith)
 
 low_of_requires : tie.Need-low_of-requires invariant-z decreases-z invariant-low decreases-low invariant-ct0 decreases-ct0 invariant-tries decreases-tries
@@ -426,7 +430,7 @@ low_of_requires c κs = (
 )
 
 tries_less_3 : tie.Need-tries-smaller-then-p-low_of invariant-z decreases-z invariant-low decreases-low invariant-ct0 decreases-ct0 invariant-tries decreases-tries
-tries_less_3 c = omega (arith, (low_over c).begins.if-limit-next.left)
+tries_less_3 c = omega (arith, (low_over c).begins.if-limit-next.false)
 
 tries_again_3 : tie.Need-tries-preserved-then-p-low_of invariant-z decreases-z invariant-low decreases-low invariant-ct0 decreases-ct0 invariant-tries decreases-tries
 tries_again_3 c =
@@ -446,7 +450,7 @@ low_again c = (
   omega arith,
   bound_more
       (λ (t : ℕ). nat_abs (low_bits (low_under c).start.args.p (pos (get_or (rest_work (low_under c).rest_done) ((low_under c).low_span.span-low.result.start + t) 0))))
-      ((low_under c).start.args.p.gamma2 - (low_under c).start.args.p.beta) (low_under c).low_loop.low.j (low_under c).low_loop.low.inv.1
+      ((low_under c).start.args.p.gamma2 - (low_under c).start.args.p.beta) (low_under c).low_loop.low.j (low_under c).low_loop.low.invariant.1
       (omega (arith, c.if-p-low_of.false, c.low_of.ensures)),
 )
 
@@ -467,7 +471,7 @@ mul_magnitude_2 c = omega (arith, (ct0_index c).ct0_span.span-ct0.ensures.most, 
 
 slice_read_magnitude_2 : tie.Need-bounds-work-ct0 invariant-z decreases-z invariant-low decreases-low invariant-ct0 decreases-ct0 invariant-tries decreases-tries
 slice_read_magnitude_2 c =
-    at_place (ct0_read c).head (ct0_work (ct0_read c).ct0_done) (ct0_long (ct0_read c).ct0_done) place.Ct0 _ (ct0_read c).ct0_span.span-ct0.ensures.starts (ct0_read c).ct0_loop.ct0.k (omega arith)
+    at_place (ct0_unread c).head (ct0_work (ct0_unread c).ct0_done) (ct0_long (ct0_unread c).ct0_done) place.Ct0 _ (ct0_unread c).ct0_span.span-ct0.ensures.starts (ct0_unread c).ct0_loop.ct0.k (omega arith)
 
 magnitude_requires_2 : tie.Need-magnitude-requires-in-ct0 invariant-z decreases-z invariant-low decreases-low invariant-ct0 decreases-ct0 invariant-tries decreases-tries
 magnitude_requires_2 c κs =
@@ -475,7 +479,7 @@ magnitude_requires_2 c κs =
     (omega arith)
 
 tries_less_4 : tie.Need-tries-smaller-then-p-magnitude-2 invariant-z decreases-z invariant-low decreases-low invariant-ct0 decreases-ct0 invariant-tries decreases-tries
-tries_less_4 c = omega (arith, (ct0_over c).begins.if-limit-next.left)
+tries_less_4 c = omega (arith, (ct0_over c).begins.if-limit-next.false)
 
 tries_again_4 : tie.Need-tries-preserved-then-p-magnitude-2 invariant-z decreases-z invariant-low decreases-low invariant-ct0 decreases-ct0 invariant-tries decreases-tries
 tries_again_4 c =
@@ -495,7 +499,7 @@ ct0_again c = (
   omega arith,
   bound_more
       (λ (t : ℕ). nat_abs (signed (ct0_under c).start.args.p.q (get_or (ct0_work (ct0_under c).ct0_done) ((ct0_under c).ct0_span.span-ct0.result.start + t) 0)))
-      (ct0_under c).start.args.p.gamma2 (ct0_under c).ct0_loop.ct0.k (ct0_under c).ct0_loop.ct0.inv.1
+      (ct0_under c).start.args.p.gamma2 (ct0_under c).ct0_loop.ct0.k (ct0_under c).ct0_loop.ct0.invariant.1
       (omega (arith, c.if-p-magnitude-2.false, (ct0_under c).ct0_tested.magnitude-in-ct0.ensures)),
 )
 
@@ -514,7 +518,7 @@ count_ones_requires c κs =
     )
 
 tries_less_5 : tie.Need-tries-smaller invariant-z decreases-z invariant-low decreases-low invariant-ct0 decreases-ct0 invariant-tries decreases-tries
-tries_less_5 c = omega (arith, (ones_over c).begins.if-limit-next.left)
+tries_less_5 c = omega (arith, (ones_over c).begins.if-limit-next.false)
 
 tries_again_5 : tie.Need-tries-preserved invariant-z decreases-z invariant-low decreases-low invariant-ct0 decreases-ct0 invariant-tries decreases-tries
 tries_again_5 c =
@@ -524,22 +528,22 @@ tries_again_5 c =
     (lit≤ tt) (hints_held at.hints_done) (hints_long at.hints_done) (commitment_long at.commit_done)
 
 same_length : tie.Need-shape_of-work-then-limit-next invariant-z decreases-z invariant-low decreases-low invariant-ct0 decreases-ct0 invariant-tries decreases-tries
-same_length c = (spent c).head.tries.inv.long
+same_length c = (spent c).head.tries.invariant.long
 
 same_length_2 : tie.Need-shape_of-commitment-then-limit-next invariant-z decreases-z invariant-low decreases-low invariant-ct0 decreases-ct0 invariant-tries decreases-tries
-same_length_2 c = (spent c).head.tries.inv.long_c
+same_length_2 c = (spent c).head.tries.invariant.long_c
 
 returns : tie.Need-returns-then-limit-next invariant-z decreases-z invariant-low decreases-low invariant-ct0 decreases-ct0 invariant-tries decreases-tries
 returns c =
     let at = spent c in
-    sym at.head.tries.inv.rest ∙
+    sym at.head.tries.invariant.rest ∙
     first_end (try at.start.args.p shake256 (signer at.start)) at.head.tries.next at.start.args.limit c.if-limit-next.true
 
 same_length_3 : tie.Need-shape_of-work-else-p-count_ones invariant-z decreases-z invariant-low decreases-low invariant-ct0 decreases-ct0 invariant-tries decreases-tries
-same_length_3 c = hints_long (passed c).hints_done ∙ (passed c).head.tries.inv.long
+same_length_3 c = hints_long (passed c).hints_done ∙ (passed c).head.tries.invariant.long
 
 same_length_4 : tie.Need-shape_of-commitment-else-p-count_ones invariant-z decreases-z invariant-low decreases-low invariant-ct0 decreases-ct0 invariant-tries decreases-tries
-same_length_4 c = commitment_long (passed c).commit_done ∙ (passed c).head.tries.inv.long_c
+same_length_4 c = commitment_long (passed c).commit_done ∙ (passed c).head.tries.invariant.long_c
 
 returns-2 : tie.Need-returns-else-p-count_ones invariant-z decreases-z invariant-low decreases-low invariant-ct0 decreases-ct0 invariant-tries decreases-tries
 returns-2 c =
@@ -547,13 +551,13 @@ returns-2 c =
     let passes =
     try_passes (begun_at at.commit_done) (drew-at at.drawn) (z_small at.z_passed) (low_is_small at.low_passed) (ct0_small at.ct0_passed) (ones_few c) in
     record {
-      below = at.begins.if-limit-next.left;
+      below = at.begins.if-limit-next.false;
       c = (drew-at at.drawn).c;
       held = hints_held at.hints_done;
       small = z_small at.z_passed;
       found =
-          sym at.head.tries.inv.rest ∙
-          first_stop (try at.start.args.p shake256 (signer at.start)) at.head.tries.next at.start.args.limit _ at.begins.if-limit-next.left passes;
+          sym at.head.tries.invariant.rest ∙
+          first_stop (try at.start.args.p shake256 (signer at.start)) at.head.tries.next at.start.args.limit _ at.begins.if-limit-next.false passes;
     }
 
 pub first_passing_spec : {M : Type 1} → statement M

@@ -3,6 +3,7 @@ use lib.ListN.{length, get_or}
 use mir.Facts.{to_z-of_z}
 use Rattle.residues.specs.Remainder.{signed}
 use Rattle.buffers.proofs.Changes.{Changed, changed_none, changed_more, changed_all}
+use native.Mathlib.Omega.{arith}
 use borrow.Author.Rules.{rules}
 use Rattle.buffers.proofs.convert.store_centred.Statement.{statement}
 use Rattle.buffers.proofs.convert.store_centred.Tie as tie
@@ -23,7 +24,8 @@ shared_slice_read_centre : tie.Need-bounds-from-i invariant-loop-i decreases-loo
 shared_slice_read_centre c = search rules
 
 centre_requires : tie.Need-centre-requires invariant-loop-i decreases-loop-i
-centre_requires c κs = (c.loop-i.invariant.1 c.loop-i.i, c.loop-i.invariant.0)
+centre_requires c κs =
+    (omega (arith, c.loop-i.invariant.1 c.loop-i.i, c.loop-i.invariant.0), omega (arith, c.loop-i.invariant.0))
 
 mul_t10 : tie.Need-offset_bounds-to-i invariant-loop-i decreases-loop-i
 mul_t10 c = search rules

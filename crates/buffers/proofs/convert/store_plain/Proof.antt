@@ -26,7 +26,8 @@ shared_slice_read_difference : tie.Need-bounds-from-i invariant-loop-i decreases
 shared_slice_read_difference c = search rules
 
 difference_requires : tie.Need-difference-requires invariant-loop-i decreases-loop-i
-difference_requires c κs = (c.loop-i.invariant.0 c.loop-i.i, omega arith)
+difference_requires c κs =
+    (omega (arith, c.loop-i.invariant.0 c.loop-i.i), omega (arith, c.loop-i.invariant.0 c.loop-i.i))
 
 mul_t9 : tie.Need-offset_bounds-to-i invariant-loop-i decreases-loop-i
 mul_t9 c = search rules

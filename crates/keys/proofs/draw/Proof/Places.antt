@@ -10,9 +10,6 @@ AFilled = tie.After-fill_a-a
 abbrev pub NoADrawn : Type 0
 NoADrawn = tie.In-Refused
 
-abbrev pub ADrawn : Type 0
-ADrawn = tie.In_default
-
 abbrev pub After-of : Type 0
 After-of = tie.After-of
 
@@ -21,9 +18,6 @@ S1Filled = tie.After-fill_s-s1
 
 abbrev pub NoS1Drawn : Type 0
 NoS1Drawn = tie.In-Refused-s1
-
-abbrev pub S1Drawn : Type 0
-S1Drawn = tie.In_default-s1
 
 abbrev pub After-of-2 : Type 0
 After-of-2 = tie.After-of-2
@@ -44,46 +38,25 @@ no_a_drawn c =
 
 abbrev pub no_s1_drawn :
     NoS1Drawn →
-    record { start : Start; a_filled : AFilled; a_drawn : ADrawn; after-of : After-of; s1_filled : S1Filled }
+    record { start : Start; a_filled : AFilled; after-of : After-of; s1_filled : S1Filled }
 no_s1_drawn c =
     let s1_filled = c.before.before.before in
     let after-of = s1_filled.before.before in
-    let a_drawn = after-of.before in
-    let a_filled = a_drawn.before.before.before in
+    let a_filled = after-of.before.before.before.before in
     let start = a_filled.before.before.before.before.before in
-    record { start = start; a_filled = a_filled; a_drawn = a_drawn; after-of = after-of; s1_filled = s1_filled }
+    record { start = start; a_filled = a_filled; after-of = after-of; s1_filled = s1_filled }
 
 abbrev pub done :
     Done →
-    record {
-      start : Start;
-      a_filled : AFilled;
-      a_drawn : ADrawn;
-      after-of : After-of;
-      s1_filled : S1Filled;
-      s1_drawn : S1Drawn;
-      after-of-2 : After-of-2;
-      s2_filled : S2Filled;
-    }
+    record { start : Start; a_filled : AFilled; after-of : After-of; s1_filled : S1Filled; after-of-2 : After-of-2; s2_filled : S2Filled }
 done c =
     let s2_filled = c.before.before in
     let after-of-2 = s2_filled.before.before in
-    let s1_drawn = after-of-2.before in
-    let s1_filled = s1_drawn.before.before.before in
+    let s1_filled = after-of-2.before.before.before.before in
     let after-of = s1_filled.before.before in
-    let a_drawn = after-of.before in
-    let a_filled = a_drawn.before.before.before in
+    let a_filled = after-of.before.before.before.before in
     let start = a_filled.before.before.before.before.before in
-    record {
-      start = start;
-      a_filled = a_filled;
-      a_drawn = a_drawn;
-      after-of = after-of;
-      s1_filled = s1_filled;
-      s1_drawn = s1_drawn;
-      after-of-2 = after-of-2;
-      s2_filled = s2_filled;
-    }
+    record { start = start; a_filled = a_filled; after-of = after-of; s1_filled = s1_filled; after-of-2 = after-of-2; s2_filled = s2_filled }
 
 -- the code's places and needs when this was made, by which `places` follows a change of the code
 -- code: Start After-shared_slice_known-1=shared_slice_known-1 After-shared_slice_known-2-1=shared_slice_known-2-1 After-slice_known-1=slice_known-1

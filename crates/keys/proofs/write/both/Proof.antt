@@ -16,12 +16,6 @@ public_requires c κs = search rules
 slice_aggregate_shake256 : tie.Need-slice_bounds-shake256-end-3
 slice_aggregate_shake256 c = search rules
 
-slice_aggregate_shake256_2 : tie.Need-slice_aggregate-shake256-2
-slice_aggregate_shake256_2 c = search rules
-
-slice_aggregate_shake256_3 : tie.Need-slice_aggregate-shake256-3
-slice_aggregate_shake256_3 c = search rules
-
 shake256_requires : tie.Need-shake256-requires
 shake256_requires c κs = search rules
 
@@ -50,8 +44,6 @@ both_spec =
     (tie.spec
     public_requires
     slice_aggregate_shake256
-    slice_aggregate_shake256_2
-    slice_aggregate_shake256_3
     shake256_requires
     slice_aggregate_secret
     secret_requires

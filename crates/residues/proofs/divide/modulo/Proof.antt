@@ -15,7 +15,7 @@ rem_result c = search rules
 cast_result_2 : tie.Need-overflow_cast-result-then-q-eq-Q
 cast_result_2 c = search rules
 
-rem_result_2 : tie.Need-nonzero_rem-result-2
+rem_result_2 : tie.Need-nonzero_rem-result-else-q-eq-Q
 rem_result_2 c = search rules
 
 cast_result_3 : tie.Need-overflow_cast-result-else-q-eq-Q-2

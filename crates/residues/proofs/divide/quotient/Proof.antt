@@ -4,7 +4,7 @@ use borrow.Author.Rules.{rules}
 use Rattle.residues.proofs.divide.quotient.Statement.{statement}
 use Rattle.residues.proofs.divide.quotient.Tie as tie
 
-div_result : tie.Need-nonzero_div-result
+div_result : tie.Need-nonzero_div-result-else-step-eq-ALPHA
 div_result c = search rules
 
 returns : tie.Need-returns-then-step-eq-ALPHA

@@ -14,32 +14,14 @@ Head = tie.At-loop-k invariant-loop-k decreases-loop-k
 abbrev pub Turn : Type 0
 Turn = tie.In-loop-k invariant-loop-k decreases-loop-k
 
-abbrev pub Ended : Type 0
-Ended = tie.After-loop-k invariant-loop-k decreases-loop-k
-
-abbrev pub Placed : Type 0
-Placed = tie.After-slice_known-in-loop-k-1 invariant-loop-k decreases-loop-k
-
-abbrev pub ToFirst : Type 0
-ToFirst = tie.After-shared_slice_known-in-loop-k-1 invariant-loop-k decreases-loop-k
-
 abbrev pub First : Type 0
 First = tie.After-times invariant-loop-k decreases-loop-k
-
-abbrev pub ToSecond : Type 0
-ToSecond = tie.After-shared_slice_known-in-loop-k-2-1 invariant-loop-k decreases-loop-k
 
 abbrev pub Second : Type 0
 Second = tie.After-times-in-loop-k invariant-loop-k decreases-loop-k
 
-abbrev pub ToThird : Type 0
-ToThird = tie.After-shared_slice_known-in-loop-k-3-1 invariant-loop-k decreases-loop-k
-
 abbrev pub Third : Type 0
 Third = tie.After-times-in-loop-k-2 invariant-loop-k decreases-loop-k
-
-abbrev pub ToFourth : Type 0
-ToFourth = tie.After-shared_slice_known-in-loop-k-4-1 invariant-loop-k decreases-loop-k
 
 abbrev pub Fourth : Type 0
 Fourth = tie.After-times-in-loop-k-3 invariant-loop-k decreases-loop-k
@@ -51,83 +33,20 @@ begins c =
     let start = c.before.before in
     record { start = start }
 
-abbrev pub turn :
-    Turn →
-    record { head : Head }
-turn c =
-    let head = c.before in
-    record { head = head }
-
-abbrev pub ended :
-    Ended →
-    record { head : Head }
-ended c =
-    let head = c.before in
-    record { head = head }
-
-abbrev pub placed :
-    Placed →
-    record { head : Head }
-placed c =
-    let head = c.before.before in
-    record { head = head }
-
-abbrev pub to_first :
-    ToFirst →
-    record { head : Head }
-to_first c =
-    let head = c.before.before.before in
-    record { head = head }
-
-abbrev pub first :
-    First →
-    record { head : Head }
-first c =
-    let head = c.before.before.before.before in
-    record { head = head }
-
-abbrev pub to_second :
-    ToSecond →
-    record { start : Start; head : Head }
-to_second c =
-    let head = c.before.before.before.before.before in
-    let start = head.before.before.before in
-    record { start = start; head = head }
-
 abbrev pub second :
     Second →
-    record { start : Start; head : Head; first : First }
+    record { first : First }
 second c =
     let first = c.before.before in
-    let head = first.before.before.before.before in
-    let start = head.before.before.before in
-    record { start = start; head = head; first = first }
-
-abbrev pub to_third :
-    ToThird →
-    record { start : Start; head : Head }
-to_third c =
-    let head = c.before.before.before.before.before.before.before in
-    let start = head.before.before.before in
-    record { start = start; head = head }
+    record { first = first }
 
 abbrev pub third :
     Third →
-    record { start : Start; head : Head; first : First; second : Second }
+    record { first : First; second : Second }
 third c =
     let second = c.before.before in
     let first = second.before.before in
-    let head = first.before.before.before.before in
-    let start = head.before.before.before in
-    record { start = start; head = head; first = first; second = second }
-
-abbrev pub to_fourth :
-    ToFourth →
-    record { start : Start; head : Head }
-to_fourth c =
-    let head = c.before.before.before.before.before.before.before.before.before in
-    let start = head.before.before.before in
-    record { start = start; head = head }
+    record { first = first; second = second }
 
 abbrev pub fourth :
     Fourth →

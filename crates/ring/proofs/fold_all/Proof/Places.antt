@@ -11,17 +11,8 @@ Cleared = tie.After-clear_numbers invariant-loop-e decreases-loop-e
 abbrev pub Begins : Type 0
 Begins = tie.After-slice_known-2-1 invariant-loop-e decreases-loop-e
 
-abbrev pub Head : Type 0
-Head = tie.At-loop-e invariant-loop-e decreases-loop-e
-
 abbrev pub Turn : Type 0
 Turn = tie.In-loop-e invariant-loop-e decreases-loop-e
-
-abbrev pub Ended : Type 0
-Ended = tie.After-loop-e invariant-loop-e decreases-loop-e
-
-abbrev pub Read : Type 0
-Read = tie.After-shared_slice_known-in-loop-e-1 invariant-loop-e decreases-loop-e
 
 abbrev pub Reduced : Type 0
 Reduced = tie.After-modulo-c invariant-loop-e decreases-loop-e
@@ -43,38 +34,22 @@ begins c =
     let start = cleared.before.before.before.before.before.before in
     record { start = start; cleared = cleared }
 
-abbrev pub ended :
-    Ended →
-    record { head : Head }
-ended c =
-    let head = c.before in
-    record { head = head }
-
-abbrev pub read :
-    Read →
-    record { head : Head }
-read c =
-    let head = c.before.before in
-    record { head = head }
-
 abbrev pub to_fold :
     ToFold →
-    record { head : Head; turn : Turn; reduced : Reduced }
+    record { turn : Turn; reduced : Reduced }
 to_fold c =
     let reduced = c.before in
     let turn = reduced.before.before in
-    let head = turn.before in
-    record { head = head; turn = turn; reduced = reduced }
+    record { turn = turn; reduced = reduced }
 
 abbrev pub turned :
     Turned →
-    record { head : Head; turn : Turn; reduced : Reduced; folded : Folded }
+    record { turn : Turn; reduced : Reduced; folded : Folded }
 turned c =
     let folded = c.before.before in
     let reduced = folded.before.before in
     let turn = reduced.before.before in
-    let head = turn.before in
-    record { head = head; turn = turn; reduced = reduced; folded = folded }
+    record { turn = turn; reduced = reduced; folded = folded }
 
 -- the code's places and needs when this was made, by which `places` follows a change of the code
 -- code: Start After-shared_slice_known-1=shared_slice_known-1 After-slice_known-1=slice_known-1 After-struct_known-1=struct_known-1

@@ -24,12 +24,11 @@ Done = tie.After-slice_known-7-1
 
 abbrev pub to_rows :
     ToRows →
-    record { start : Start; pad_done : PadDone; cleared : Cleared }
+    record { pad_done : PadDone; cleared : Cleared }
 to_rows c =
     let cleared = c.before.before.before in
     let pad_done = cleared.before.before.before.before in
-    let start = pad_done.before.before.before.before.before.before.before in
-    record { start = start; pad_done = pad_done; cleared = cleared }
+    record { pad_done = pad_done; cleared = cleared }
 
 abbrev pub done :
     Done →

@@ -69,13 +69,6 @@ begins c =
     let start = c.before.before.before in
     record { start = start }
 
-abbrev pub head :
-    Head →
-    record { start : Start }
-head c =
-    let start = c.before.before.before.before in
-    record { start = start }
-
 abbrev pub turn :
     Turn →
     record { head : Head }
@@ -99,28 +92,25 @@ some c =
 
 abbrev pub first :
     First →
-    record { head : Head; turn : Turn }
+    record { turn : Turn }
 first c =
     let turn = c.before.before.before in
-    let head = turn.before in
-    record { head = head; turn = turn }
+    record { turn = turn }
 
 abbrev pub second :
     Second →
-    record { head : Head; turn : Turn; first : First }
+    record { turn : Turn; first : First }
 second c =
     let first = c.before in
     let turn = first.before.before.before in
-    let head = turn.before in
-    record { head = head; turn = turn; first = first }
+    record { turn = turn; first = first }
 
 abbrev pub third :
     Third →
-    record { head : Head; second : Second }
+    record { second : Second }
 third c =
     let second = c.before in
-    let head = second.before.before.before.before.before in
-    record { head = head; second = second }
+    record { second = second }
 
 abbrev pub first_read :
     FirstRead →

@@ -1,5 +1,4 @@
 -- The product of set 1, walked. Places are named below; `places ring product` makes Proof/Places.antt of the names.
--- place first_wrong = Then-first-ne-N: the first factor has another length
 -- place first_right = Else-first-ne-N
 -- place second_wrong = Then-second-ne-N: or the second
 -- place second_right = Else-second-ne-N
@@ -28,12 +27,12 @@ returns : tie.Need-returns-then-first-ne-N
 returns c = refusing _ _ _ (wrong_first set1 _ _ _ c.if-first-ne-N.true)
 
 returns-2 : tie.Need-returns-then-second-ne-N
-returns-2 c = refusing _ _ _ (wrong_second set1 _ _ _ (second_wrong c).first_right.if-first-ne-N.left c.if-second-ne-N.true)
+returns-2 c = refusing _ _ _ (wrong_second set1 _ _ _ (second_wrong c).first_right.if-first-ne-N.false c.if-second-ne-N.true)
 
 returns-3 : tie.Need-returns-then-out-ne-N
 returns-3 c =
     let at = out_wrong c in
-    refusing _ _ _ (wrong_out set1 _ _ _ at.first_right.if-first-ne-N.left at.second_right.if-second-ne-N.left c.if-out-ne-N.true)
+    refusing _ _ _ (wrong_out set1 _ _ _ at.first_right.if-first-ne-N.false at.second_right.if-second-ne-N.false c.if-out-ne-N.true)
 
 slice_aggregate_reduce_all : tie.Need-slice_bounds-reduce_all-end
 slice_aggregate_reduce_all c = search rules
@@ -63,7 +62,7 @@ multiply_requires : tie.Need-multiply-requires
 multiply_requires c κs =
     let at = to_multiply c in
     can_multiply _ at.numbered.numbers.ensures at.start.args.first.now at.start.args.second.now _ _
-    at.first_right.if-first-ne-N.left at.second_right.if-second-ne-N.left at.first_reduced.reduce_all.ensures at.second_reduced.reduce_all-2.ensures
+    at.first_right.if-first-ne-N.false at.second_right.if-second-ne-N.false at.first_reduced.reduce_all.ensures at.second_reduced.reduce_all-2.ensures
 
 slice_aggregate_store_plain : tie.Need-slice_bounds-store_plain-end
 slice_aggregate_store_plain c = search rules
@@ -72,9 +71,9 @@ store_plain_requires : tie.Need-store_plain-requires
 store_plain_requires c κs =
     let at = to_store c in
     let s = can_store _ at.numbered.numbers.ensures at.start.args.first.now at.start.args.second.now _ _
-    at.first_right.if-first-ne-N.left at.second_right.if-second-ne-N.left at.first_reduced.reduce_all.ensures at.second_reduced.reduce_all-2.ensures
+    at.first_right.if-first-ne-N.false at.second_right.if-second-ne-N.false at.first_reduced.reduce_all.ensures at.second_reduced.reduce_all-2.ensures
     _ at.multiplied.multiply.ensures in
-    (s.1, at.out_right.if-out-ne-N.left ∙ sym s.0)
+    (s.1, at.out_right.if-out-ne-N.false ∙ sym s.0)
 
 same_length : tie.Need-shape_of-out
 same_length c = search rules
@@ -85,9 +84,9 @@ returns-4 c =
     let a = at.start.args.first.now in
     let b = at.start.args.second.now in
     let is_product = stored _ at.numbered.numbers.ensures a b _ _
-    at.first_right.if-first-ne-N.left at.second_right.if-second-ne-N.left at.first_reduced.reduce_all.ensures at.second_reduced.reduce_all-2.ensures
+    at.first_right.if-first-ne-N.false at.second_right.if-second-ne-N.false at.first_reduced.reduce_all.ensures at.second_reduced.reduce_all-2.ensures
     _ at.multiplied.multiply.ensures in
-    doing _ _ _ _ (all_right set1 a b _ at.first_right.if-first-ne-N.left at.second_right.if-second-ne-N.left at.out_right.if-out-ne-N.left)
+    doing _ _ _ _ (all_right set1 a b _ at.first_right.if-first-ne-N.false at.second_right.if-second-ne-N.false at.out_right.if-out-ne-N.false)
     (at.stored_plain.store_plain.ensures ∙ is_product)
 
 pub product_spec : {M : Type 1} → statement M

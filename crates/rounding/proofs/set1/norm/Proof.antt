@@ -5,6 +5,7 @@ use Prim.Native.Nat.{ℕ, ◌-◌, ◌≤◌, max}
 use native.Mathlib.Omega.{arith}
 use lib.ListN.{length, get_or, drop}
 use lib.IntN.{pos, nat_abs}
+use mir.Syntax.{w32}
 use mir.Facts.{to_z-of_z}
 use Rattle.residues.specs.Remainder.{residue, signed, centred, magnitude}
 use Rattle.rounding.specs.Rounding.{norm}
@@ -22,7 +23,7 @@ decreases-loop-i values most₀ i₀ most i = length values - i
 -- the coefficient's remainder, and its magnitude
 x_is : (c : tie.After-plain_remainder invariant-loop-i decreases-loop-i) → c.plain_remainder.result ≡ residue 8401537
     (get_or c.args.values.now c.loop-i.i (pos 0))
-x_is c = c.plain_remainder.ensures ∙ ap (residue 8401537) (to_z-of_z (record { sfits = c.plain_remainder-arg-1.given }))
+x_is c = c.plain_remainder.ensures ∙ ap (residue 8401537) (to_z-of_z {w = w32} (record { sfits = c.plain_remainder-arg-1.given }))
 
 m_is : (c : tie.After-magnitude-m invariant-loop-i decreases-loop-i) → c.magnitude-m.result ≡ magnitude 8401537
     (get_or c.args.values.now c.loop-i.i (pos 0))
@@ -56,7 +57,7 @@ loop-again c =
     let l = c.loop-i in
     let m = m_is c.before in
     let n = norm_next 8401537 c.args.values.now l.i c.loop-i-test.true in
-    (omega arith, ⊎_elim (λ w. omega (arith, w.0.taken, w.1)) (λ w. omega (arith, w.0.left, w.1)) c.if-most-m.branch)
+    (omega arith, ⊎_elim (λ w. omega (arith, w.if-most-m.true, w.most-is)) (λ w. omega (arith, w.if-most-m.false, w.most-is)) c.if-most-m.branch-raw)
 
 returns : tie.Need-returns invariant-loop-i decreases-loop-i
 returns c =

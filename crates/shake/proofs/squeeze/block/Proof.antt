@@ -35,7 +35,7 @@ returns c =
     let r : ℕ → List ℕ = λ k. row_bytes (get_or a.a k []) in
     let b : ℕ → List ℕ = λ k. lane_bytes (lane a.a k 3) in
     let two = behind out (r 0) (r 1) a.i (a.i + 40) refl (within at.start 40 (lit≤ tt)) at.row0.row.ensures at.row1.row-2.ensures in
-    let three = behind out (r 0 ++ r 1) (r 2) a.i (a.i + 80) refl (within at.start 80 (lit≤ tt)) two at.row-2.row-3.ensures in
+    let three = behind out (r 0 ++ r 1) (r 2) a.i (a.i + 80) refl (within at.start 80 (lit≤ tt)) two at.row2.row-3.ensures in
     let four = behind out (r 0 ++ r 1 ++ r 2) (b 0) a.i (a.i + 120) refl (within at.start 120 (lit≤ tt)) three at.lane0.store.ensures in
     behind out (r 0 ++ r 1 ++ r 2 ++ b 0) (b 1) a.i (a.i + 128) refl (within at.start 128 (lit≤ tt)) four at.lane1.store-2.ensures
 

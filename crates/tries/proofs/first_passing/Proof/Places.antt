@@ -62,6 +62,9 @@ ZPassed = tie.Then-p-i invariant-z decreases-z invariant-low decreases-low invar
 abbrev pub ZBound : Type 0
 ZBound = tie.After-struct_known-in-z-1 invariant-z decreases-z invariant-low decreases-low invariant-ct0 decreases-ct0 invariant-tries decreases-tries
 
+abbrev pub ZUnread : Type 0
+ZUnread = tie.After-slice_known-in-z-1-unread invariant-z decreases-z invariant-low decreases-low invariant-ct0 decreases-ct0 invariant-tries decreases-tries
+
 abbrev pub ZRead : Type 0
 ZRead = tie.After-slice_known-in-z-1 invariant-z decreases-z invariant-low decreases-low invariant-ct0 decreases-ct0 invariant-tries decreases-tries
 
@@ -86,6 +89,9 @@ LowPassed = tie.Then-p-j invariant-z decreases-z invariant-low decreases-low inv
 abbrev pub LowBound : Type 0
 LowBound = tie.After-struct_known-in-low-2-1 invariant-z decreases-z invariant-low decreases-low invariant-ct0 decreases-ct0 invariant-tries decreases-tries
 
+abbrev pub LowUnread : Type 0
+LowUnread = tie.After-slice_known-in-low-1-unread invariant-z decreases-z invariant-low decreases-low invariant-ct0 decreases-ct0 invariant-tries decreases-tries
+
 abbrev pub LowRead : Type 0
 LowRead = tie.After-slice_known-in-low-1 invariant-z decreases-z invariant-low decreases-low invariant-ct0 decreases-ct0 invariant-tries decreases-tries
 
@@ -109,6 +115,9 @@ Ct0Passed = tie.Then-p-k invariant-z decreases-z invariant-low decreases-low inv
 
 abbrev pub Ct0Index : Type 0
 Ct0Index = tie.Else-p-k invariant-z decreases-z invariant-low decreases-low invariant-ct0 decreases-ct0 invariant-tries decreases-tries
+
+abbrev pub Ct0Unread : Type 0
+Ct0Unread = tie.After-slice_known-in-ct0-1-unread invariant-z decreases-z invariant-low decreases-low invariant-ct0 decreases-ct0 invariant-tries decreases-tries
 
 abbrev pub Ct0Read : Type 0
 Ct0Read = tie.After-slice_known-in-ct0-1 invariant-z decreases-z invariant-low decreases-low invariant-ct0 decreases-ct0 invariant-tries decreases-tries
@@ -276,16 +285,25 @@ z_bound c =
     let start = z_span.before.before.before.before.before in
     record { start = start; z_span = z_span }
 
-abbrev pub z_read :
-    ZRead →
-    record { start : Start; z_span : ZSpan; head : Head; respond_done : RespondDone; z_loop : ZLoop }
-z_read c =
+abbrev pub z_unread :
+    ZUnread →
+    record { z_span : ZSpan; head : Head; respond_done : RespondDone; z_loop : ZLoop }
+z_unread c =
     let z_loop = c.before.before.before.before in
     let respond_done = z_loop.before.before.before in
     let head = respond_done.before.before.before.before.before.before.before.before.before.before.before.before.before.before.before.before.before.before.before in
     let z_span = head.before.before.before in
+    record { z_span = z_span; head = head; respond_done = respond_done; z_loop = z_loop }
+
+abbrev pub z_read :
+    ZRead →
+    record { start : Start; z_span : ZSpan; respond_done : RespondDone; z_loop : ZLoop }
+z_read c =
+    let z_loop = c.before.before.before.before in
+    let respond_done = z_loop.before.before.before in
+    let z_span = respond_done.before.before.before.before.before.before.before.before.before.before.before.before.before.before.before.before.before.before.before.before.before.before in
     let start = z_span.before.before.before.before.before in
-    record { start = start; z_span = z_span; head = head; respond_done = respond_done; z_loop = z_loop }
+    record { start = start; z_span = z_span; respond_done = respond_done; z_loop = z_loop }
 
 abbrev pub z_over :
     ZOver →
@@ -351,16 +369,25 @@ low_bound c =
     let start = low_span.before.before.before.before.before.before in
     record { start = start; low_span = low_span }
 
-abbrev pub low_read :
-    LowRead →
-    record { start : Start; low_span : LowSpan; head : Head; rest_done : RestDone; low_loop : LowLoop }
-low_read c =
+abbrev pub low_unread :
+    LowUnread →
+    record { low_span : LowSpan; head : Head; rest_done : RestDone; low_loop : LowLoop }
+low_unread c =
     let low_loop = c.before.before.before.before in
     let rest_done = low_loop.before.before.before in
     let head = rest_done.before.before.before.before.before.before.before.before.before.before.before.before.before.before.before.before.before.before.before.before.before.before.before.before.before.before in
     let low_span = head.before.before in
+    record { low_span = low_span; head = head; rest_done = rest_done; low_loop = low_loop }
+
+abbrev pub low_read :
+    LowRead →
+    record { start : Start; low_span : LowSpan; rest_done : RestDone; low_loop : LowLoop }
+low_read c =
+    let low_loop = c.before.before.before.before in
+    let rest_done = low_loop.before.before.before in
+    let low_span = rest_done.before.before.before.before.before.before.before.before.before.before.before.before.before.before.before.before.before.before.before.before.before.before.before.before.before.before.before.before in
     let start = low_span.before.before.before.before.before.before in
-    record { start = start; low_span = low_span; head = head; rest_done = rest_done; low_loop = low_loop }
+    record { start = start; low_span = low_span; rest_done = rest_done; low_loop = low_loop }
 
 abbrev pub low_over :
     LowOver →
@@ -447,16 +474,25 @@ ct0_index c =
     let start = ct0_span.before.before.before.before.before.before.before in
     record { start = start; ct0_span = ct0_span }
 
-abbrev pub ct0_read :
-    Ct0Read →
-    record { start : Start; ct0_span : Ct0Span; head : Head; ct0_done : Ct0Done; ct0_loop : Ct0Loop }
-ct0_read c =
+abbrev pub ct0_unread :
+    Ct0Unread →
+    record { ct0_span : Ct0Span; head : Head; ct0_done : Ct0Done; ct0_loop : Ct0Loop }
+ct0_unread c =
     let ct0_loop = c.before.before.before in
     let ct0_done = ct0_loop.before.before.before in
     let head = ct0_done.before.before.before.before.before.before.before.before.before.before.before.before.before.before.before.before.before.before.before.before.before.before.before.before.before.before.before.before.before.before.before.before.before in
     let ct0_span = head.before in
+    record { ct0_span = ct0_span; head = head; ct0_done = ct0_done; ct0_loop = ct0_loop }
+
+abbrev pub ct0_read :
+    Ct0Read →
+    record { start : Start; ct0_span : Ct0Span; ct0_done : Ct0Done; ct0_loop : Ct0Loop }
+ct0_read c =
+    let ct0_loop = c.before.before.before in
+    let ct0_done = ct0_loop.before.before.before in
+    let ct0_span = ct0_done.before.before.before.before.before.before.before.before.before.before.before.before.before.before.before.before.before.before.before.before.before.before.before.before.before.before.before.before.before.before.before.before.before.before in
     let start = ct0_span.before.before.before.before.before.before.before in
-    record { start = start; ct0_span = ct0_span; head = head; ct0_done = ct0_done; ct0_loop = ct0_loop }
+    record { start = start; ct0_span = ct0_span; ct0_done = ct0_done; ct0_loop = ct0_loop }
 
 abbrev pub ct0_over :
     Ct0Over →

@@ -51,12 +51,12 @@ slice_read_combined_2 c = search rules
 combined_requires : tie.Need-combined-requires invariant-loop-t decreases-loop-t
 combined_requires c κs =
     let at = read c in
-    let l = at.at-loop-t.loop-t in
+    let l = c.loop-t in
     let to = at.after-span-to.span-to.ensures.starts in (
       at.start.requires.0.0.good,
       (
-        unwritten_lt _ _ _ _ _ _ l.inv _ _ _ at.after-span-first.span-first.ensures.starts to at.start.requires.1.0 at.in-loop-t.loop-t-test.taken,
-        unwritten_lt _ _ _ _ _ _ l.inv _ _ _ at.after-span-second.span-second.ensures.starts to at.start.requires.1.1 at.in-loop-t.loop-t-test.taken,
+        unwritten_lt _ _ _ _ _ _ l.invariant _ _ _ at.after-span-first.span-first.ensures.starts to at.start.requires.1.0 c.loop-t-test.true,
+        unwritten_lt _ _ _ _ _ _ l.invariant _ _ _ at.after-span-second.span-second.ensures.starts to at.start.requires.1.1 c.loop-t-test.true,
       ),
     )
 
@@ -78,15 +78,15 @@ loop-less c = search rules
 loop-again : tie.Need-loop-t-preserved invariant-loop-t decreases-loop-t
 loop-again c =
     let at = valued c in
-    let l = at.at-loop-t.loop-t in
+    let l = c.loop-t in
     let to = at.after-span-to.span-to.ensures.starts in
-    writing_more _ _ _ _ _ _ l.inv _ at.in-loop-t.loop-t-test.taken
-    (omega (arith, at.in-loop-t.loop-t-test.taken, to, place_end at.start.args.p at.start.args.k, at.start.requires.0.1))
+    writing_more _ _ _ _ _ _ l.invariant _ c.loop-t-test.true
+    (omega (arith, c.loop-t-test.true, to, place_end at.start.args.p at.start.args.k, at.start.requires.0.1))
     (c.combined.ensures ∙
     (λ x. combined at.start.args.p at.start.args.op
-    (unwritten _ _ _ _ _ _ l.inv _ _ _ at.after-span-first.span-first.ensures.starts to at.in-loop-t.loop-t-test.taken x)
-    (unwritten _ _ _ _ _ _ l.inv _ _ _ at.after-span-second.span-second.ensures.starts to at.in-loop-t.loop-t-test.taken x)) ∙
-    sym (at_tab 0 _ _ l.t at.in-loop-t.loop-t-test.taken))
+    (unwritten _ _ _ _ _ _ l.invariant _ _ _ at.after-span-first.span-first.ensures.starts to c.loop-t-test.true x)
+    (unwritten _ _ _ _ _ _ l.invariant _ _ _ at.after-span-second.span-second.ensures.starts to c.loop-t-test.true x)) ∙
+    sym (at_tab 0 _ _ l.t c.loop-t-test.true))
 
 same_length : tie.Need-shape_of-work invariant-loop-t decreases-loop-t
 same_length c = search rules
@@ -94,11 +94,11 @@ same_length c = search rules
 returns : tie.Need-returns invariant-loop-t decreases-loop-t
 returns c =
     let at = ended c in
-    let l = at.at-loop-t.loop-t in
+    let l = c.loop-t in
     let a = at.start.args in
     made_combined a.p at.start.requires.0.0 a.i a.j a.k a.work.now _ a.op
     (rw (combined_from a.p at.start.requires.0.0 a.i a.j a.k a.work.now l.work a.op _ _ at.after-span-first.span-first.ensures.starts at.after-span-second.span-second.ensures.starts) at
-    (writing_all _ _ _ _ _ _ l.inv _ at.after-span-to.span-to.ensures.starts (within a.p a.k a.work.now at.start.requires.0.1) (length_tab _ _) c.loop-t-test.false))
+    (writing_all _ _ _ _ _ _ l.invariant _ at.after-span-to.span-to.ensures.starts (within a.p a.k a.work.now at.start.requires.0.1) (length_tab _ _) c.loop-t-test.false))
 
 pub combine_spec : {M : Type 1} → statement M
 combine_spec =

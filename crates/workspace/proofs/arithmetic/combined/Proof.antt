@@ -88,19 +88,19 @@ returns : tie.Need-returns-in-Sum
 returns c =
     let at = after-wrap c in
     let a = at.start.args in
-    c.wrap.ensures ∙ ap (λ (o : Op). combined a.p o a.x a.y) (sym at.in-Sum.enum_told-1.given.1)
+    c.wrap.ensures ∙ ap (λ (o : Op). combined a.p o a.x a.y) (sym c.in-Sum.is)
 
 returns-2 : tie.Need-returns-in-Difference
 returns-2 c =
     let at = after-wrap-in-Difference c in
     let a = at.start.args in
-    c.wrap-in-Difference.ensures ∙ ap (λ (o : Op). combined a.p o a.x a.y) (sym at.in-Difference.enum_told-in-Difference-1.given.1)
+    c.wrap-in-Difference.ensures ∙ ap (λ (o : Op). combined a.p o a.x a.y) (sym c.in-Difference.is)
 
 returns-3 : tie.Need-returns-in-LessScaled
 returns-3 c =
     let at = after-less_scaled c in
     let a = at.start.args in
-    c.less_scaled.ensures ∙ ap (λ (o : Op). combined a.p o a.x a.y) (sym at.in-LessScaled.enum_told-in-LessScaled-1.given.1)
+    c.less_scaled.ensures ∙ ap (λ (o : Op). combined a.p o a.x a.y) (sym c.in-LessScaled.is)
 
 returns-4 : tie.Need-returns-in-Hint
 returns-4 c =
@@ -108,31 +108,31 @@ returns-4 c =
     let a = at.start.args in
     c.hint_of.ensures ∙
     (λ i. make_hint a.p (pos (at.after-wrap-in-Hint.wrap-in-Hint.ensures i)) (pos (at.after-wrap-in-Hint-2.wrap-in-Hint-2.ensures i))) ∙
-    ap (λ (o : Op). combined a.p o a.x a.y) (sym at.in-Hint.enum_told-in-Hint-1.given.1)
+    ap (λ (o : Op). combined a.p o a.x a.y) (sym c.in-Hint.is)
 
 returns-5 : tie.Need-returns-in-Used
 returns-5 c =
     let at = after-used_of c in
     let a = at.start.args in
-    c.used_of.ensures ∙ ap (λ (o : Op). combined a.p o a.x a.y) (sym at.in-Used.enum_told-in-Used-1.given.1)
+    c.used_of.ensures ∙ ap (λ (o : Op). combined a.p o a.x a.y) (sym c.in-Used.is)
 
 returns-6 : tie.Need-returns-in-High
 returns-6 c =
     let at = after-high_of c in
     let a = at.start.args in
-    c.high_of.ensures ∙ ap (λ (o : Op). combined a.p o a.x a.y) (sym at.in-High.enum_told-in-High-1.given.1)
+    c.high_of.ensures ∙ ap (λ (o : Op). combined a.p o a.x a.y) (sym c.in-High.is)
 
 returns-7 : tie.Need-returns-in-PowerHigh
 returns-7 c =
     let at = after-power_high c in
     let a = at.start.args in
-    c.power_high.ensures ∙ ap (λ (o : Op). combined a.p o a.x a.y) (sym at.in-PowerHigh.enum_told-in-PowerHigh-1.given.1)
+    c.power_high.ensures ∙ ap (λ (o : Op). combined a.p o a.x a.y) (sym c.in-PowerHigh.is)
 
 returns-8 : tie.Need-returns-in-PowerLow
 returns-8 c =
     let at = after-power_low c in
     let a = at.start.args in
-    c.power_low.ensures ∙ ap (λ (o : Op). combined a.p o a.x a.y) (sym at.in-PowerLow.enum_told-in-PowerLow-1.given.1)
+    c.power_low.ensures ∙ ap (λ (o : Op). combined a.p o a.x a.y) (sym c.in-PowerLow.is)
 
 pub combined_spec : {M : Type 1} → statement M
 combined_spec =

@@ -23,10 +23,10 @@ mul_copy_numbers c = search rules
 sub_copy_numbers : tie.Need-slice_bounds-copy_numbers-count
 sub_copy_numbers c = search rules
 
-part_copy_numbers_start : tie.Need-slice_bounds-copy-numbers-start
+part_copy_numbers_start : tie.Need-slice_bounds-copy_numbers-start
 part_copy_numbers_start c = search rules
 
-part_copy_numbers_end : tie.Need-slice_bounds-copy-numbers-end
+part_copy_numbers_end : tie.Need-slice_bounds-copy_numbers-end
 part_copy_numbers_end c = search rules
 
 copy_numbers_requires : tie.Need-copy_numbers-requires

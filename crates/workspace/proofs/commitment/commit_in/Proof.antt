@@ -13,9 +13,6 @@ pack_requires c κs =
     let at = after-pack-arg-1 c in
     asks_w1 at.start.args.p _ at.after-of.of.ensures at.start.args.work.now at.start.requires.0.0 at.start.requires.0.1 at.start.requires.0.2 _ at.start.requires.1.0
 
-slice_aggregate_shake256 : tie.Need-slice_aggregate-shake256
-slice_aggregate_shake256 c = search rules
-
 shake256_requires : tie.Need-shake256-requires
 shake256_requires c κs = search rules
 
@@ -37,7 +34,6 @@ commit_in_spec =
     (tie.spec
     of_requires
     pack_requires
-    slice_aggregate_shake256
     shake256_requires
     same_length
     same_length_2

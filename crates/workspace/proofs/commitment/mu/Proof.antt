@@ -7,9 +7,6 @@ use Rattle.workspace.proofs.commitment.mu.Statement.{statement}
 use Rattle.workspace.proofs.commitment.mu.Tie as tie
 use Places.{after-slice_known-2-1}
 
-slice_aggregate_shake256 : tie.Need-slice_aggregate-shake256
-slice_aggregate_shake256 c = search rules
-
 shake256_requires : tie.Need-shake256-requires
 shake256_requires c κs = search rules
 
@@ -22,4 +19,4 @@ returns c =
     at.after-shake256.shake256.ensures ∙ (λ i. shake256 (at.start.args.ph.now ++ append-nil at.start.args.message.now i) (at.start.requires i))
 
 pub mu_spec : {M : Type 1} → statement M
-mu_spec = tie.close (tie.spec slice_aggregate_shake256 shake256_requires same_length returns)
+mu_spec = tie.close (tie.spec shake256_requires same_length returns)

@@ -17,10 +17,10 @@ mul_expand_a c = search rules
 sub_expand_a : tie.Need-slice_bounds-expand_a-count
 sub_expand_a c = search rules
 
-part_expand_a_start : tie.Need-slice_bounds-expand-a-start
+part_expand_a_start : tie.Need-slice_bounds-expand_a-start
 part_expand_a_start c = search rules
 
-part_expand_a_end : tie.Need-slice_bounds-expand-a-end
+part_expand_a_end : tie.Need-slice_bounds-expand_a-end
 part_expand_a_end c = search rules
 
 expand_a_requires : tie.Need-expand_a-requires

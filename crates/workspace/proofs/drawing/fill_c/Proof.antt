@@ -17,10 +17,10 @@ mul_expand_c c = search rules
 sub_expand_c : tie.Need-slice_bounds-expand_c-count
 sub_expand_c c = search rules
 
-part_expand_c_start : tie.Need-slice_bounds-expand-c-start
+part_expand_c_start : tie.Need-slice_bounds-expand_c-start
 part_expand_c_start c = search rules
 
-part_expand_c_end : tie.Need-slice_bounds-expand-c-end
+part_expand_c_end : tie.Need-slice_bounds-expand_c-end
 part_expand_c_end c = search rules
 
 expand_c_requires : tie.Need-expand_c-requires

@@ -17,10 +17,10 @@ mul_expand_s c = search rules
 sub_expand_s : tie.Need-slice_bounds-expand_s-count
 sub_expand_s c = search rules
 
-part_expand_s_start : tie.Need-slice_bounds-expand-s-start
+part_expand_s_start : tie.Need-slice_bounds-expand_s-start
 part_expand_s_start c = search rules
 
-part_expand_s_end : tie.Need-slice_bounds-expand-s-end
+part_expand_s_end : tie.Need-slice_bounds-expand_s-end
 part_expand_s_end c = search rules
 
 expand_s_requires : tie.Need-expand_s-requires

@@ -17,10 +17,10 @@ mul_expand_y c = search rules
 sub_expand_y : tie.Need-slice_bounds-expand_y-count
 sub_expand_y c = search rules
 
-part_expand_y_start : tie.Need-slice_bounds-expand-y-start
+part_expand_y_start : tie.Need-slice_bounds-expand_y-start
 part_expand_y_start c = search rules
 
-part_expand_y_end : tie.Need-slice_bounds-expand-y-end
+part_expand_y_end : tie.Need-slice_bounds-expand_y-end
 part_expand_y_end c = search rules
 
 expand_y_requires : tie.Need-expand_y-requires

@@ -42,7 +42,7 @@ loop-less c = search rules
 loop-again : tie.Need-loop-i-preserved invariant-loop-i decreases-loop-i
 loop-again c =
     let l = c.loop-i in
-    rw c.code_of_lem.ensures (changed_more 0 _ _ _ l.i _ l.invariant c.loop-i-test.true)
+    rw c.code_of.ensures (changed_more 0 _ _ _ l.i _ l.invariant c.loop-i-test.true)
 
 same_length : tie.Need-shape_of-codes invariant-loop-i decreases-loop-i
 same_length c = search rules

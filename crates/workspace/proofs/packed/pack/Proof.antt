@@ -14,10 +14,10 @@ mul_pack_element c = search rules
 sub_pack_element : tie.Need-slice_bounds-pack_element-count
 sub_pack_element c = search rules
 
-part_pack_element_start : tie.Need-slice_bounds-pack-element-start
+part_pack_element_start : tie.Need-slice_bounds-pack_element-start
 part_pack_element_start c = search rules
 
-part_pack_element_end : tie.Need-slice_bounds-pack-element-end
+part_pack_element_end : tie.Need-slice_bounds-pack_element-end
 part_pack_element_end c = search rules
 
 pack_element_requires : tie.Need-pack_element-requires

@@ -20,10 +20,10 @@ mul_count_ones c = search rules
 sub_count_ones : tie.Need-slice_bounds-count_ones-count
 sub_count_ones c = search rules
 
-part_count_ones_start : tie.Need-slice_bounds-count-ones-start
+part_count_ones_start : tie.Need-slice_bounds-count_ones-start
 part_count_ones_start c = search rules
 
-part_count_ones_end : tie.Need-slice_bounds-count-ones-end
+part_count_ones_end : tie.Need-slice_bounds-count_ones-end
 part_count_ones_end c = search rules
 
 count_ones_requires : tie.Need-count_ones-requires

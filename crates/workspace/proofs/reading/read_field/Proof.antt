@@ -35,7 +35,7 @@ returns : tie.Need-returns-in-All
 returns c =
     let at = good c in
     field_all at.start.args.p at.start.args.k _ _ at.after-of.of.ensures _ _ at.after-of-2.of-2.ensures at.start.args.work.now _ _
-    at.after-unpack-found.unpack-found.ensures (Coefficient at.start.args.f) c.enum_told-1.given.1
+    at.after-unpack-found.unpack-found.ensures (Coefficient at.start.args.f) c.in-All.is
 
 same_length_2 : tie.Need-shape_of-work-in-BadAt
 same_length_2 c = search rules
@@ -44,7 +44,7 @@ returns-2 : tie.Need-returns-in-BadAt
 returns-2 c =
     let at = bad c in
     field_bad at.start.args.p at.start.args.k _ _ at.after-of.of.ensures _ _ at.after-of-2.of-2.ensures at.start.args.work.now _ _
-    at.after-unpack-found.unpack-found.ensures (Coefficient at.start.args.f) _ at.in-BadAt-2.found-1.given.1
+    at.after-unpack-found.unpack-found.ensures (Coefficient at.start.args.f) _ c.in-BadAt.is
 
 pub read_field_spec : {M : Type 1} → statement M
 read_field_spec =

@@ -7,7 +7,7 @@ use Rattle.workspace.proofs.Fields.{asks_part, hints_bad, hints_below, hints_man
 use borrow.Author.Rules.{rules}
 use Rattle.workspace.proofs.reading.read_hints.Statement.{statement}
 use Rattle.workspace.proofs.reading.read_hints.Tie as tie
-use Places.{after-unpack-arg-1, bad, many, few}
+use Places.{after-unpack-arg-1, bad, all, many, few}
 
 -- place bad = In-BadAt
 -- place all = In_default
@@ -36,17 +36,17 @@ returns : tie.Need-returns-in-BadAt
 returns c =
     let at = bad c in
     hints_bad at.start.args.p at.start.requires.0.0 _ at.after-hint.hint.ensures _ _ at.after-of.of.ensures at.start.args.work.now _ _
-    at.after-unpack-found.unpack-found.ensures _ c.enum_told-1.given.1
+    at.after-unpack-found.unpack-found.ensures _ c.in-BadAt.is
 
 enum_told_2 : tie.Need-enum_told-in_default
 enum_told_2 c = search rules
 
 count_ones_requires : tie.Need-count_ones-requires
 count_ones_requires c κs =
-    let at = after-count-ones-arg c in (
+    let at = all c in (
       (at.start.requires.0.0, omega (arith, at.start.requires.0.1, at.after-unpack-found.unpack-found.auto.work)),
       hints_below at.start.args.p at.start.requires.0.0 _ at.after-hint.hint.ensures _ _ at.after-of.of.ensures at.start.args.work.now _ _
-          at.after-unpack-found.unpack-found.ensures at.all.enum_told-in_default-1.given.1,
+          at.after-unpack-found.unpack-found.ensures c.in_default.is,
     )
 
 same_length_2 : tie.Need-shape_of-work-then-p-count_ones
@@ -56,7 +56,7 @@ returns-2 : tie.Need-returns-then-p-count_ones
 returns-2 c =
     let at = many c in
     hints_many at.start.args.p at.start.requires.0.0 _ at.after-hint.hint.ensures _ _ at.after-of.of.ensures at.start.args.work.now _ _
-    at.after-unpack-found.unpack-found.ensures at.all.enum_told-in_default-1.given.1 _ at.after-count_ones.count_ones.ensures c.if-p-count_ones.true
+    at.after-unpack-found.unpack-found.ensures c.in_default.is _ at.after-count_ones.count_ones.ensures c.if-p-count_ones.true
 
 same_length_3 : tie.Need-shape_of-work
 same_length_3 c = search rules
@@ -65,7 +65,7 @@ returns-3 : tie.Need-returns
 returns-3 c =
     let at = few c in
     hints_few at.start.args.p at.start.requires.0.0 _ at.after-hint.hint.ensures _ _ at.after-of.of.ensures at.start.args.work.now _ _
-    at.after-unpack-found.unpack-found.ensures at.all.enum_told-in_default-1.given.1 _ at.after-count_ones.count_ones.ensures c.if-p-count_ones.false
+    at.after-unpack-found.unpack-found.ensures c.in_default.is _ at.after-count_ones.count_ones.ensures c.if-p-count_ones.false
 
 pub read_hints_spec : {M : Type 1} → statement M
 read_hints_spec =

@@ -10,6 +10,9 @@ Row0 = tie.After-row
 abbrev pub Row1 : Type 0
 Row1 = tie.After-row-2
 
+abbrev pub Row2 : Type 0
+Row2 = tie.After-row-3
+
 abbrev pub Lane0 : Type 0
 Lane0 = tie.After-store
 
@@ -21,14 +24,15 @@ Done = tie.After-slice_known-6-1
 
 abbrev pub done :
     Done →
-    record { start : Start; row0 : Row0; row1 : Row1; lane0 : Lane0; lane1 : Lane1 }
+    record { start : Start; row0 : Row0; row1 : Row1; row2 : Row2; lane0 : Lane0; lane1 : Lane1 }
 done c =
     let lane1 = c.before.before in
     let lane0 = lane1.before.before.before.before in
-    let row1 = lane0.before.before.before.before.before.before.before.before in
+    let row2 = lane0.before.before.before.before in
+    let row1 = row2.before.before.before.before in
     let row0 = row1.before.before.before.before in
     let start = row0.before.before.before.before.before.before.before in
-    record { start = start; row0 = row0; row1 = row1; lane0 = lane0; lane1 = lane1 }
+    record { start = start; row0 = row0; row1 = row1; row2 = row2; lane0 = lane0; lane1 = lane1 }
 
 -- the code's places and needs when this was made, by which `places` follows a change of the code
 -- code: Start After-slice_known-1=slice_known-1 After-r0-1=r0-1 After-r1-1=r1-1 After-r2-1=r2-1 After-r3-1=r3-1 After-row-arg-1=row-arg-1

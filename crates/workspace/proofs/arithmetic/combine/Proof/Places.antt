@@ -14,12 +14,6 @@ After-span-second = tie.After-span-second invariant-loop-t decreases-loop-t
 abbrev pub After-span-to : Type 0
 After-span-to = tie.After-span-to invariant-loop-t decreases-loop-t
 
-abbrev pub At-loop-t : Type 0
-At-loop-t = tie.At-loop-t invariant-loop-t decreases-loop-t
-
-abbrev pub In-loop-t : Type 0
-In-loop-t = tie.In-loop-t invariant-loop-t decreases-loop-t
-
 abbrev pub Ended : Type 0
 Ended = tie.After-loop-t invariant-loop-t decreases-loop-t
 
@@ -31,66 +25,33 @@ Valued = tie.After-combined invariant-loop-t decreases-loop-t
 
 abbrev pub ended :
     Ended →
-    record { start : Start; after-span-first : After-span-first; after-span-second : After-span-second; after-span-to : After-span-to; at-loop-t : At-loop-t }
+    record { start : Start; after-span-first : After-span-first; after-span-second : After-span-second; after-span-to : After-span-to }
 ended c =
-    let at-loop-t = c.before.before in
-    let after-span-to = at-loop-t.before in
+    let after-span-to = c.before.before.before in
     let after-span-second = after-span-to.before in
     let after-span-first = after-span-second.before in
     let start = after-span-first.before.before in
-    record { start = start; after-span-first = after-span-first; after-span-second = after-span-second; after-span-to = after-span-to; at-loop-t = at-loop-t }
+    record { start = start; after-span-first = after-span-first; after-span-second = after-span-second; after-span-to = after-span-to }
 
 abbrev pub read :
     Read →
-    record {
-      start : Start;
-      after-span-first : After-span-first;
-      after-span-second : After-span-second;
-      after-span-to : After-span-to;
-      at-loop-t : At-loop-t;
-      in-loop-t : In-loop-t;
-    }
+    record { start : Start; after-span-first : After-span-first; after-span-second : After-span-second; after-span-to : After-span-to }
 read c =
-    let in-loop-t = c.before.before in
-    let at-loop-t = in-loop-t.before.before in
-    let after-span-to = at-loop-t.before in
+    let after-span-to = c.before.before.before.before.before in
     let after-span-second = after-span-to.before in
     let after-span-first = after-span-second.before in
     let start = after-span-first.before.before in
-    record {
-      start = start;
-      after-span-first = after-span-first;
-      after-span-second = after-span-second;
-      after-span-to = after-span-to;
-      at-loop-t = at-loop-t;
-      in-loop-t = in-loop-t;
-    }
+    record { start = start; after-span-first = after-span-first; after-span-second = after-span-second; after-span-to = after-span-to }
 
 abbrev pub valued :
     Valued →
-    record {
-      start : Start;
-      after-span-first : After-span-first;
-      after-span-second : After-span-second;
-      after-span-to : After-span-to;
-      at-loop-t : At-loop-t;
-      in-loop-t : In-loop-t;
-    }
+    record { start : Start; after-span-first : After-span-first; after-span-second : After-span-second; after-span-to : After-span-to }
 valued c =
-    let in-loop-t = c.before.before.before in
-    let at-loop-t = in-loop-t.before.before in
-    let after-span-to = at-loop-t.before in
+    let after-span-to = c.before.before.before.before.before.before in
     let after-span-second = after-span-to.before in
     let after-span-first = after-span-second.before in
     let start = after-span-first.before.before in
-    record {
-      start = start;
-      after-span-first = after-span-first;
-      after-span-second = after-span-second;
-      after-span-to = after-span-to;
-      at-loop-t = at-loop-t;
-      in-loop-t = in-loop-t;
-    }
+    record { start = start; after-span-first = after-span-first; after-span-second = after-span-second; after-span-to = after-span-to }
 
 -- the code's places and needs when this was made, by which `places` follows a change of the code
 -- code: Start After-slice_known-1=slice_known-1 After-span-first=span-first After-span-second=span-second After-span-to=span-to At-loop-t=loop-t

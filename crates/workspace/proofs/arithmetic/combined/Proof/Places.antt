@@ -4,26 +4,14 @@ use Rattle.workspace.proofs.arithmetic.combined.Tie as tie
 abbrev pub Start : Type 0
 Start = tie.Start
 
-abbrev pub In-Sum : Type 0
-In-Sum = tie.In-Sum
-
 abbrev pub After-wrap : Type 0
 After-wrap = tie.After-wrap
-
-abbrev pub In-Difference : Type 0
-In-Difference = tie.In-Difference
 
 abbrev pub After-wrap-in-Difference : Type 0
 After-wrap-in-Difference = tie.After-wrap-in-Difference
 
-abbrev pub In-LessScaled : Type 0
-In-LessScaled = tie.In-LessScaled
-
 abbrev pub After-less_scaled : Type 0
 After-less_scaled = tie.After-less_scaled
-
-abbrev pub In-Hint : Type 0
-In-Hint = tie.In-Hint
 
 abbrev pub After-wrap-in-Hint : Type 0
 After-wrap-in-Hint = tie.After-wrap-in-Hint
@@ -34,53 +22,38 @@ After-wrap-in-Hint-2 = tie.After-wrap-in-Hint-2
 abbrev pub After-hint_of : Type 0
 After-hint_of = tie.After-hint_of
 
-abbrev pub In-Used : Type 0
-In-Used = tie.In-Used
-
 abbrev pub After-used_of : Type 0
 After-used_of = tie.After-used_of
-
-abbrev pub In-High : Type 0
-In-High = tie.In-High
 
 abbrev pub After-high_of : Type 0
 After-high_of = tie.After-high_of
 
-abbrev pub In-PowerHigh : Type 0
-In-PowerHigh = tie.In-PowerHigh
-
 abbrev pub After-power_high : Type 0
 After-power_high = tie.After-power_high
-
-abbrev pub In-PowerLow : Type 0
-In-PowerLow = tie.In-PowerLow
 
 abbrev pub After-power_low : Type 0
 After-power_low = tie.After-power_low
 
 abbrev pub after-wrap :
     After-wrap →
-    record { start : Start; in-Sum : In-Sum }
+    record { start : Start }
 after-wrap c =
-    let in-Sum = c.before in
-    let start = in-Sum.before in
-    record { start = start; in-Sum = in-Sum }
+    let start = c.before.before in
+    record { start = start }
 
 abbrev pub after-wrap-in-Difference :
     After-wrap-in-Difference →
-    record { start : Start; in-Difference : In-Difference }
+    record { start : Start }
 after-wrap-in-Difference c =
-    let in-Difference = c.before.before in
-    let start = in-Difference.before in
-    record { start = start; in-Difference = in-Difference }
+    let start = c.before.before.before in
+    record { start = start }
 
 abbrev pub after-less_scaled :
     After-less_scaled →
-    record { start : Start; in-LessScaled : In-LessScaled }
+    record { start : Start }
 after-less_scaled c =
-    let in-LessScaled = c.before in
-    let start = in-LessScaled.before in
-    record { start = start; in-LessScaled = in-LessScaled }
+    let start = c.before.before in
+    record { start = start }
 
 abbrev pub after-wrap-in-Hint-2 :
     After-wrap-in-Hint-2 →
@@ -92,45 +65,40 @@ after-wrap-in-Hint-2 c =
 
 abbrev pub after-hint_of :
     After-hint_of →
-    record { start : Start; in-Hint : In-Hint; after-wrap-in-Hint : After-wrap-in-Hint; after-wrap-in-Hint-2 : After-wrap-in-Hint-2 }
+    record { start : Start; after-wrap-in-Hint : After-wrap-in-Hint; after-wrap-in-Hint-2 : After-wrap-in-Hint-2 }
 after-hint_of c =
     let after-wrap-in-Hint-2 = c.before in
     let after-wrap-in-Hint = after-wrap-in-Hint-2.before in
-    let in-Hint = after-wrap-in-Hint.before.before in
-    let start = in-Hint.before in
-    record { start = start; in-Hint = in-Hint; after-wrap-in-Hint = after-wrap-in-Hint; after-wrap-in-Hint-2 = after-wrap-in-Hint-2 }
+    let start = after-wrap-in-Hint.before.before.before in
+    record { start = start; after-wrap-in-Hint = after-wrap-in-Hint; after-wrap-in-Hint-2 = after-wrap-in-Hint-2 }
 
 abbrev pub after-used_of :
     After-used_of →
-    record { start : Start; in-Used : In-Used }
+    record { start : Start }
 after-used_of c =
-    let in-Used = c.before in
-    let start = in-Used.before in
-    record { start = start; in-Used = in-Used }
+    let start = c.before.before in
+    record { start = start }
 
 abbrev pub after-high_of :
     After-high_of →
-    record { start : Start; in-High : In-High }
+    record { start : Start }
 after-high_of c =
-    let in-High = c.before in
-    let start = in-High.before in
-    record { start = start; in-High = in-High }
+    let start = c.before.before in
+    record { start = start }
 
 abbrev pub after-power_high :
     After-power_high →
-    record { start : Start; in-PowerHigh : In-PowerHigh }
+    record { start : Start }
 after-power_high c =
-    let in-PowerHigh = c.before in
-    let start = in-PowerHigh.before in
-    record { start = start; in-PowerHigh = in-PowerHigh }
+    let start = c.before.before in
+    record { start = start }
 
 abbrev pub after-power_low :
     After-power_low →
-    record { start : Start; in-PowerLow : In-PowerLow }
+    record { start : Start }
 after-power_low c =
-    let in-PowerLow = c.before in
-    let start = in-PowerLow.before in
-    record { start = start; in-PowerLow = in-PowerLow }
+    let start = c.before.before in
+    record { start = start }
 
 -- the code's places and needs when this was made, by which `places` follows a change of the code
 -- code: Start In-Sum-1=in-Sum-1 Walked-In-Sum=enum_told-1 In-Sum After-wrap=wrap In-Difference-1=in-Difference-1

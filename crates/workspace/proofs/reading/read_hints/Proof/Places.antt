@@ -50,29 +50,37 @@ bad c =
     let start = after-hint.before.before.before in
     record { start = start; after-hint = after-hint; after-of = after-of; after-unpack-found = after-unpack-found }
 
-abbrev pub many :
-    Many →
-    record { start : Start; after-hint : After-hint; after-of : After-of; after-unpack-found : After-unpack-found; all : All; after-count_ones : After-count_ones }
-many c =
-    let after-count_ones = c.before.before in
-    let all = after-count_ones.before in
-    let after-unpack-found = all.before.before.before in
+abbrev pub all :
+    All →
+    record { start : Start; after-hint : After-hint; after-of : After-of; after-unpack-found : After-unpack-found }
+all c =
+    let after-unpack-found = c.before.before.before in
     let after-of = after-unpack-found.before.before in
     let after-hint = after-of.before in
     let start = after-hint.before.before.before in
-    record { start = start; after-hint = after-hint; after-of = after-of; after-unpack-found = after-unpack-found; all = all; after-count_ones = after-count_ones }
+    record { start = start; after-hint = after-hint; after-of = after-of; after-unpack-found = after-unpack-found }
+
+abbrev pub many :
+    Many →
+    record { start : Start; after-hint : After-hint; after-of : After-of; after-unpack-found : After-unpack-found; after-count_ones : After-count_ones }
+many c =
+    let after-count_ones = c.before.before in
+    let after-unpack-found = after-count_ones.before.before.before.before in
+    let after-of = after-unpack-found.before.before in
+    let after-hint = after-of.before in
+    let start = after-hint.before.before.before in
+    record { start = start; after-hint = after-hint; after-of = after-of; after-unpack-found = after-unpack-found; after-count_ones = after-count_ones }
 
 abbrev pub few :
     Few →
-    record { start : Start; after-hint : After-hint; after-of : After-of; after-unpack-found : After-unpack-found; all : All; after-count_ones : After-count_ones }
+    record { start : Start; after-hint : After-hint; after-of : After-of; after-unpack-found : After-unpack-found; after-count_ones : After-count_ones }
 few c =
     let after-count_ones = c.before.before in
-    let all = after-count_ones.before in
-    let after-unpack-found = all.before.before.before in
+    let after-unpack-found = after-count_ones.before.before.before.before in
     let after-of = after-unpack-found.before.before in
     let after-hint = after-of.before in
     let start = after-hint.before.before.before in
-    record { start = start; after-hint = after-hint; after-of = after-of; after-unpack-found = after-unpack-found; all = all; after-count_ones = after-count_ones }
+    record { start = start; after-hint = after-hint; after-of = after-of; after-unpack-found = after-unpack-found; after-count_ones = after-count_ones }
 
 -- the code's places and needs when this was made, by which `places` follows a change of the code
 -- code: Start After-shared_slice_known-1=shared_slice_known-1 After-slice_known-1=slice_known-1 After-hint=hint After-of=of

@@ -1,0 +1,9 @@
+use Rattle.answers.specs.declared.Field.TheVariants.{Z}
+use Rattle.ncc_c.proofs.Coding.{pack_index, to_number}
+use Rattle.ncc_c.proofs.pack.ncc_pack_z.Goals as goal
+
+pub answer-requires : goal.answer-requires
+answer-requires c = pack_index Z c.args.values.now c.args.out.now c.pack_z.result c.pack_z.ensures.answers
+
+pub returns : goal.returns
+returns c = to_number c.pack_z.ensures c.answer.ensures

@@ -1,0 +1,9 @@
+use Rattle.answers.specs.declared.Field.TheVariants.{W1}
+use Rattle.ncc_c.proofs.Coding.{unpack_index, to_number}
+use Rattle.ncc_c.proofs.pack.ncc_unpack_w1.Goals as goal
+
+pub answer-requires : goal.answer-requires
+answer-requires c = unpack_index W1 c.args.packed.now c.args.out.now c.unpack_w1.result c.unpack_w1.ensures.answers
+
+pub returns : goal.returns
+returns c = to_number c.unpack_w1.ensures c.answer.ensures

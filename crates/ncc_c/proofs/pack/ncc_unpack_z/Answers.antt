@@ -1,0 +1,9 @@
+use Rattle.answers.specs.declared.Field.TheVariants.{Z}
+use Rattle.ncc_c.proofs.Coding.{unpack_index, to_number}
+use Rattle.ncc_c.proofs.pack.ncc_unpack_z.Goals as goal
+
+pub answer-requires : goal.answer-requires
+answer-requires c = unpack_index Z c.args.packed.now c.args.out.now c.unpack_z.result c.unpack_z.ensures.answers
+
+pub returns : goal.returns
+returns c = to_number c.unpack_z.ensures c.answer.ensures

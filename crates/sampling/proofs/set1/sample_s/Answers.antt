@@ -1,0 +1,24 @@
+use mathlib.Core.Path.{refl, sym, ◌∙◌}
+use Rattle.buffers.proofs.Copies.{overlay_all}
+use Rattle.sets.proofs.Five.{good_set1}
+use Rattle.answers.proofs.Outcomes.{refusing, doing}
+use Rattle.sampling.specs.Samplers.{sample_s}
+use Rattle.sampling.proofs.Calling.{told_s, wrong_length, call_dry, call_done}
+use Rattle.sampling.proofs.set1.sample_s.Goals as goal
+
+pub returns-then-out-ne-N : goal.returns-then-out-ne-N
+returns-then-out-ne-N c = refusing _ _ _ (wrong_length sample_s _ _ c.if-out-ne-N.true)
+
+pub draw_s-requires : goal.draw_s-requires
+draw_s-requires c = rw c.numbers.ensures (record { good = good_set1; out_len = refl })
+
+pub returns-in_default : goal.returns-in_default
+returns-in_default c = refusing _ _ _
+    (call_dry sample_s _ _ c.if-out-ne-N.false _ _
+    (told_s _ c.numbers.ensures c.args.stream.now _ _ c.draw_s.ensures) c.in_default.is)
+
+pub returns : goal.returns
+returns c = doing _ _ _ _
+    (call_done sample_s _ _ c.if-out-ne-N.false _ _
+    (told_s _ c.numbers.ensures c.args.stream.now _ _ c.draw_s.ensures) c.in-All.is)
+    (c.copy_signed.ensures ∙ overlay_all _ c.args.out.now (c.if-out-ne-N.false ∙ sym c.draw_s.auto.out))
