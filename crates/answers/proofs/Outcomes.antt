@@ -5,8 +5,8 @@ use Prim.Native.Nat.{ℕ, ◌≤◌, ◌<◌}
 use lib.Dec.{eqb, leb}
 use borrow.Author.Tests.{eq-eqb, ne_eqb, le-leb, lt-leb}
 use Rattle.answers.specs.declared.Refusal.{Refusal}
-use Rattle.answers.specs.declared.Answer.{Answer}
-use Rattle.answers.specs.declared.Answer.TheVariants.{Done, Refused}
+use Rattle.answers.specs.Refusals.{Answer}
+use Rattle.std.specs.Prelude.{Ok, Err}
 use Rattle.answers.specs.declared.Report.{Report}
 use Rattle.answers.specs.Refusals.{report_of}
 use Rattle.answers.specs.Result.{Result, done, refused, ◌>>=◌, ◌>>◌, need, told, left, outcome}
@@ -21,10 +21,10 @@ determined_report o a a' b b' p q =
     (report_one a a' d.0, d.1)
 
 -- a call that refuses, and one that is done
-pub refusing : {A : Type 0} (m : Result A) (r : Refusal) (out : A) → m ≡ refused r → Is (outcome m out) (report_of (Refused r)) out
+pub refusing : {A : Type 0} (m : Result A) (r : Refusal) (out : A) → m ≡ refused r → Is (outcome m out) (report_of (Err r)) out
 refusing m r out e = record { answers = ap told (sym e); leaves = ap (λ x. left x out) (sym e) }
 
-pub doing : {A : Type 0} (m : Result A) (new held out : A) → m ≡ done new → held ≡ new → Is (outcome m out) (report_of Done) held
+pub doing : {A : Type 0} (m : Result A) (new held out : A) → m ≡ done new → held ≡ new → Is (outcome m out) (report_of (Ok tt)) held
 doing m new held out e f = record { answers = ap told (sym e); leaves = f ∙ ap (λ x. left x out) (sym e) }
 
 -- a check that fails ends the call; after one that holds the rest decides

@@ -1,16 +1,13 @@
 -- What an answer says in numbers (SPEC 10): its number, the buffer or the field, the coefficient's index, and the count of tries.
 -- Buffers and fields share one numbering, under which outside programs know them too.
-use Rattle.std.specs.Prelude.{ℕ}
+use Rattle.std.specs.Prelude.{ℕ, Result, Ok, Err}
 use Rattle.answers.specs.declared.Buffer.{Buffer}
 use Rattle.answers.specs.declared.Buffer.TheVariants.{PublicKey, SecretKey, Zeta, ZetaPrime, Signature, First, Second, Coefficients, Packed}
 use Rattle.answers.specs.declared.Field.{Field}
 use Rattle.answers.specs.declared.Field.TheVariants.{T1, T0, S1, S2, S, Z, W1}
 use Rattle.answers.specs.declared.Refusal.{Refusal}
 use Rattle.answers.specs.declared.Refusal.TheVariants.{Length, LongMessage, TryLimit, Coefficient, Hint, Dry, Spent, Differs}
-use Rattle.answers.specs.declared.Answer.{Answer}
-use Rattle.answers.specs.declared.Answer.TheVariants.{Done, Refused}
-use Rattle.answers.specs.declared.Signing.{Signing}
-use Rattle.answers.specs.declared.Signing.TheVariants.{Signed, Refused as RefusedAfter}
+use Rattle.answers.specs.declared.NotSigned.{NotSigned}
 use Rattle.answers.specs.declared.Report.{Report}
 
 -- SPEC 10.3, 10.6: the buffer that a refusal for length names
@@ -72,11 +69,22 @@ refusal_report r tries = record { number = refusal_number r; place = refusal_pla
 abbrev pub done_report : ℕ → Report
 done_report tries = record { number = 0; place = 0; index = 0; tries = tries }
 
+-- what a call answers that gives nothing back but in its buffers
+abbrev pub Answer : Type 0
+Answer = Result (Unit {0}) Refusal
+
 abbrev pub report_of : Answer → Report
-report_of Done = done_report 0
-report_of (Refused r) = refusal_report r 0
+report_of (Ok done) = done_report 0
+report_of (Err why) = refusal_report why 0
 
 -- SPEC 8.10: the answer of signing carries the count of tries
+abbrev pub Signing : Type 0
+Signing = Result ℕ NotSigned
+
 abbrev pub signing_report : Signing → Report
-signing_report (Signed count) = done_report count
-signing_report (RefusedAfter r count) = refusal_report r count
+signing_report (Ok tries) = done_report tries
+signing_report (Err e) = refusal_report e.why e.tries
+
+-- a refusal before the first try
+abbrev pub before_tries : Refusal → NotSigned
+before_tries why = record { why = why; tries = 0 }

@@ -1,10 +1,8 @@
 -- A definition's result: a value, or a refusal (SPEC 10). Checks are written in the order in which they run (SPEC 10.2).
-use Rattle.std.specs.Prelude.{Bool, true, false}
+use Rattle.std.specs.Prelude.{Bool, true, false, Ok, Err}
 use Rattle.answers.specs.declared.Refusal.{Refusal}
-use Rattle.answers.specs.declared.Answer.{Answer}
-use Rattle.answers.specs.declared.Answer.TheVariants.{Done, Refused}
 use Rattle.answers.specs.declared.Report.{Report}
-use Rattle.answers.specs.Refusals.{report_of}
+use Rattle.answers.specs.Refusals.{Answer, report_of}
 
 pub data Result (A : Type 0) : Type 0 where
   done : A → Result A
@@ -32,8 +30,8 @@ pick false a b = b
 
 -- what a call answers
 abbrev pub answer_of : {A : Type 0} → Result A → Answer
-answer_of (done a) = Done
-answer_of (refused r) = Refused r
+answer_of (done a) = Ok tt
+answer_of (refused r) = Err r
 
 -- the same in numbers (SPEC 10.6)
 abbrev pub told : {A : Type 0} → Result A → Report

@@ -2,7 +2,7 @@
 #![tactic(auto)]
 
 ghost use Rattle.std.specs.Prelude.{◌≡◌};
-ghost use Rattle.answers.specs.Refusals.{buffer_place, field_place, field_number, refusal_number, refusal_place, refusal_index, done_report, refusal_report, report_of, signing_report};
+ghost use Rattle.answers.specs.Refusals.{buffer_place, field_place, field_number, refusal_number, refusal_place, refusal_index, done_report, refusal_report, report_of, signing_report, before_tries};
 
 // The buffer that a refusal for length names. Coefficients are the numbers of an element, Packed its bytes.
 #[derive(Clone, Copy)]
@@ -43,21 +43,24 @@ pub enum Refusal {
     Differs,
 }
 
+// Signing that did not sign says after how many tries (SPEC 8.10).
 #[derive(Clone, Copy)]
-pub enum Answer {
-    Done,
-    Refused(Refusal),
+pub struct NotSigned {
+    pub why: Refusal,
+    pub tries: u32,
 }
 
-// The answer of signing carries the count of tries (SPEC 8.10).
-#[derive(Clone, Copy)]
-pub enum Signing {
-    Signed(u32),
-    Refused(Refusal, u32),
+// Before the first try.
+impl From<Refusal> for NotSigned {
+    ghost from_gives = { λ why e. e ≡ before_tries why };
+
+    fn from(why: Refusal) -> Self {
+        NotSigned { why, tries: 0 }
+    }
 }
 
-// An answer in numbers (SPEC 10.6). A part that does not apply is 0.
-#[derive(Clone, Copy)]
+// An answer in numbers (SPEC 10.6). A part that does not apply is 0. The C interface and the programs tell it so; inside, an answer is a Result.
+#[derive(Clone, Copy, PartialEq, Eq)]
 pub struct Report {
     pub number: u32,
     pub place: u32,
@@ -159,18 +162,6 @@ impl Refusal {
             Refusal::Differs => 0,
         }
     }
-
-    // The report of a refusal after so many tries.
-    fn report(self, tries: u32) -> Report
-        ensures { result ≡ refusal_report self tries }
-    {
-        Report {
-            number: self.number(),
-            place: self.place(),
-            index: self.index(),
-            tries: tries,
-        }
-    }
 }
 
 impl Report {
@@ -182,29 +173,43 @@ impl Report {
             number: 0,
             place: 0,
             index: 0,
-            tries: tries,
+            tries,
+        }
+    }
+
+    // A refusal, after so many tries.
+    fn refused(why: Refusal, tries: u32) -> Self
+        ensures { result ≡ refusal_report why tries }
+    {
+        Report {
+            number: why.number(),
+            place: why.place(),
+            index: why.index(),
+            tries,
         }
     }
 }
 
-impl Answer {
-    pub fn report(self) -> Report
-        ensures { result ≡ report_of self }
-    {
-        match self {
-            Answer::Done => Report::done(0),
-            Answer::Refused(r) => r.report(0),
+// The answer of a call that can refuse.
+impl From<Result<(), Refusal>> for Report {
+    ghost from_gives = { λ answer report. report ≡ report_of answer };
+
+    fn from(answer: Result<(), Refusal>) -> Self {
+        match answer {
+            Ok(()) => Report::done(0),
+            Err(why) => Report::refused(why, 0),
         }
     }
 }
 
-impl Signing {
-    pub fn report(self) -> Report
-        ensures { result ≡ signing_report self }
-    {
-        match self {
-            Signing::Signed(count) => Report::done(count),
-            Signing::Refused(r, count) => r.report(count),
+// The answer of signing: the count of tries, or why it did not sign.
+impl From<Result<u32, NotSigned>> for Report {
+    ghost from_gives = { λ answer report. report ≡ signing_report answer };
+
+    fn from(answer: Result<u32, NotSigned>) -> Self {
+        match answer {
+            Ok(tries) => Report::done(tries),
+            Err(NotSigned { why, tries }) => Report::refused(why, tries),
         }
     }
 }

@@ -1,5 +1,4 @@
--- One list written over another from the front. The promises of `buffers::copy_bytes`, `copy_numbers` and `copy_signed` rest on this file, and no
--- definition of the scheme.
+-- One list written over another from the front. The promise of `buffers::copy` rests on this file, and no definition of the scheme.
 use Rattle.std.specs.Prelude.{List, ◌++◌, length, take, drop}
 
 -- xs as far as ys reaches, then what is left of ys

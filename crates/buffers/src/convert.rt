@@ -7,10 +7,8 @@ pub fn reduce_all(q: u32, from: &[i32], to: &mut [u32])
     requires { (0 < q) × (length to.old ≡ length from.now) }
     ensures { to.new ≡ map (residue q) from.now }
 {
-    let mut i: usize = 0;
-    while i < from.len() {
-        to[i] = residues::reduce(q, from[i]);
-        i += 1;
+    for (i, &x) in from.iter().enumerate() {
+        to[i] = residues::reduce(q, x);
     }
 }
 
@@ -19,10 +17,8 @@ pub fn store_plain(from: &[u32], to: &mut [i32])
     requires { ((k : ℕ) → get_or from.now k 0 < 2 ^ 31) × (length to.old ≡ length from.now) }
     ensures { to.new ≡ map pos from.now }
 {
-    let mut i: usize = 0;
-    while i < from.len() {
-        to[i] = residues::difference(from[i], 0);
-        i += 1;
+    for (i, &x) in from.iter().enumerate() {
+        to[i] = x.cast_signed();
     }
 }
 
@@ -31,9 +27,7 @@ pub fn store_centred(q: u32, from: &[u32], to: &mut [i32])
     requires { (q < 2 ^ 31) × ((k : ℕ) → get_or from.now k 0 < q) × (length to.old ≡ length from.now) }
     ensures { to.new ≡ map (signed q) from.now }
 {
-    let mut i: usize = 0;
-    while i < from.len() {
-        to[i] = residues::centre(q, from[i]);
-        i += 1;
+    for (i, &x) in from.iter().enumerate() {
+        to[i] = residues::centre(q, x);
     }
 }

@@ -16,7 +16,7 @@ ghost use Rattle.workspace.specs.declared.Place.TheVariants as place;
 ghost use Rattle.workspace.specs.Inner.{Room, Holds, Packable, values};
 ghost use Rattle.checking.specs.Inner.{Inputs, inputs, highs_for, compared, Opens, Loaded};
 
-use answers::{Answer, Buffer, Field, Refusal};
+use answers::{Buffer, Field, Refusal};
 use packing::parts::{Part, Whole};
 use sets::limits;
 use sets::numbers::Numbers;
@@ -26,27 +26,15 @@ use workspace::drawing::{fill_a, fill_c};
 use workspace::reading::{read_field, read_hints};
 
 // t1, z, the hints, a and c, up to the first refusal (SPEC 9.1).
-fn load(p: Numbers, public_key: &[u8], signature: &[u8], work: &mut [u32]) -> Answer
+fn load(p: Numbers, public_key: &[u8], signature: &[u8], work: &mut [u32]) -> Result<(), Refusal>
     requires trinomial { Trinomial p × Room p work.old }
     requires public_key_len { (length public_key.now ≡ public_size p) × (length signature.now ≡ signature_size p) }
     ensures { Gives (inputs p shake256 public_key.now signature.now) (λ i. Opens p signature.now i × Loaded p i work.new) result }
 {
-    let t1 = read_field(p, Field::T1, Part::T1, public_key, work, Place::T1);
-    if let Answer::Refused(refusal) = t1 {
-        return Answer::Refused(refusal);
-    }
-    let z = read_field(p, Field::Z, Part::Z, signature, work, Place::Z);
-    if let Answer::Refused(refusal) = z {
-        return Answer::Refused(refusal);
-    }
-    let hints = read_hints(p, signature, work);
-    if let Answer::Refused(refusal) = hints {
-        return Answer::Refused(refusal);
-    }
-    let a = fill_a(p, Part::PublicZeta.of(p, public_key), work);
-    if let Answer::Refused(refusal) = a {
-        return Answer::Refused(refusal);
-    }
+    read_field(p, Field::T1, Part::T1, public_key, work, Place::T1)?;
+    read_field(p, Field::Z, Part::Z, signature, work, Place::Z)?;
+    read_hints(p, signature, work)?;
+    fill_a(p, Part::PublicZeta.of(p, public_key), work)?;
     fill_c(p, Part::Commitment.of(p, signature), work)
 }
 
@@ -75,21 +63,6 @@ fn commit(p: Numbers, public_key: &[u8], message: &[u8], work: &[u32], out: &mut
     workspace::commitment::commit(p, &mu, work, out);
 }
 
-// The same bytes. All of them are public.
-fn same(xs: &[u8], ys: &[u8]) -> bool
-    requires { length xs.now ≡ length ys.now }
-    ensures { result ≡ same xs.now ys.now }
-{
-    let mut i: usize = 0;
-    while i < xs.len() {
-        if xs[i] != ys[i] {
-            return false;
-        }
-        i += 1;
-    }
-    true
-}
-
 // It is compared with c̃ (SPEC 9.4).
 fn compare(
     p: Numbers,
@@ -97,7 +70,7 @@ fn compare(
     signature: &[u8],
     message: &[u8],
     work: &mut [u32],
-) -> Answer
+) -> Result<(), Refusal>
     requires trinomial { Trinomial p × Room p work.old }
     requires signature_len { (length signature.now ≡ signature_size p) × ((i : Inputs) × Loaded p i work.old) }
     ensures { (i : Inputs) → Opens p signature.now i → Loaded p i work.old → result ≡ answer_of (compared p shake256 public_key.now message.now i) }
@@ -105,10 +78,12 @@ fn compare(
     let mut expected = [0u8; limits::HASH];
     recompute(p, work);
     commit(p, public_key, message, work, &mut expected);
-    if same(Part::Commitment.of(p, signature), &expected) {
-        return Answer::Done;
+    // All of them are public.
+    if Part::Commitment.of(p, signature) == expected.as_slice() {
+        Ok(())
+    } else {
+        Err(Refusal::Differs)
     }
-    Answer::Refused(Refusal::Differs)
 }
 
 // The checks in the order of their numbers (SPEC 9.5). The lent memory is scratch.
@@ -118,22 +93,19 @@ pub fn check(
     signature: &[u8],
     message: &[u8],
     work: &mut [u32],
-) -> Answer
+) -> Result<(), Refusal>
     requires { Trinomial p × Room p work.old }
     ensures { report_of result ≡ told (check p shake256 public_key.now signature.now message.now) }
 {
     if public_key.len() != Whole::PublicKey.size(p) {
-        return Answer::Refused(Refusal::Length(Buffer::PublicKey));
+        return Err(Refusal::Length(Buffer::PublicKey));
     }
     if signature.len() != Whole::Signature.size(p) {
-        return Answer::Refused(Refusal::Length(Buffer::Signature));
+        return Err(Refusal::Length(Buffer::Signature));
     }
     if limits::MESSAGE_MAX < message.len() {
-        return Answer::Refused(Refusal::LongMessage);
+        return Err(Refusal::LongMessage);
     }
-    let found = load(p, public_key, signature, work);
-    if let Answer::Refused(why) = found {
-        return Answer::Refused(why);
-    }
+    load(p, public_key, signature, work)?;
     compare(p, public_key, signature, message, work)
 }

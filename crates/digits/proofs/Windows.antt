@@ -1,13 +1,16 @@
 -- A few bytes of a number's bytes are a part of its bits.
 use mathlib.Core.Path.{◌≡◌, refl, sym, ap, ◌∙◌}
-use mathlib.Core.List.{List, [], ◌∷◌}
-use Prim.Native.Nat.{ℕ, zero, suc, ◌+◌, ◌-◌, ◌*◌, ◌/◌, ◌%◌, ◌^◌, ◌≤◌, ◌<◌}
-use native.Mathlib.Nat.{div-one, mod-one, add-mul-div_left, add-mul-mod_self_left, div-eq_of_lt, mod-eq_of_lt, zero-add, zero-div, zero-mod, div-add-mod, mul-le-mul}
+use mathlib.Core.List.{List, [], ◌∷◌, ◌++◌}
+use Prim.Native.Nat.{ℕ, zero, suc, ◌+◌, ◌-◌, ◌*◌, ◌/◌, ◌%◌, ◌^◌, ◌≤◌, ◌<◌, min}
+use native.Mathlib.Nat.{div-one, mod-one, add-mul-div_left, add-mul-mod_self_left, div-eq_of_lt, mod-eq_of_lt, zero-add, zero-div, zero-mod, div-add-mod}
 use native.Mathlib.Numerals.{add-one}
 use native.Mathlib.Omega.{arith}
 use lib.Dec.{lit<}
 use lib.Pow.{shr-shr, field, mod-mod-pow, mod-pow-add, pow_mono}
-use lib.ListN.{get_or, take, drop}
+use lib.ListN.{get_or, length, take, drop}
+use Rattle.std.proofs.lemmas.List.{drop_min, take-take}
+use Rattle.std.proofs.lemmas.Slice.{between_to_end}
+use Rattle.std.specs.Int.{w32, from_le_bytes}
 use Rattle.digits.specs.Digits.{value}
 use Rattle.digits.proofs.Numbers.{Below, below_all}
 
@@ -73,12 +76,23 @@ four_bytes bs j =
     add_three : (j : ℕ) → j + 3 ≡ suc (suc (suc j))
     add_three j = omega arith
 
--- a place among the bits fits a word with room
-pub place_room : (w i : ℕ) → w ≤ 25 → i < 2 ^ 32 → w * i ≤ 25 * 2 ^ 32
-place_room w i l m = mul-le-mul l m'
-  where
-    m' : i ≤ 2 ^ 32
-    m' = omega arith
+-- what a slice from a place on holds, where the place may lie past the end
+pub rest_is : (at m : ℕ) (bs : List ℕ) → m ≡ min at (length bs) → take (length bs - m) (drop m bs) ≡ drop at bs
+rest_is at m bs h = between_to_end bs m (length bs) (omega arith) ∙ rw h (drop_min at bs)
+
+-- what `u32::from_le_bytes` reads, of the first four bytes, or of fewer with zeros behind them
+le_value : (bs : List ℕ) → from_le_bytes w32 bs ≡ value 256 (take 4 bs)
+le_value bs = omega (arith, four_bytes bs 0)
+
+pub le_value_first : (bs : List ℕ) → from_le_bytes w32 (take 4 bs) ≡ value 256 (take 4 bs)
+le_value_first bs = le_value (take 4 bs) ∙ ap (value 256) (take-take 4 4 bs (omega arith))
+
+pub le_value_filled : (bs : List ℕ) → length bs < 4 → from_le_bytes w32 (bs ++ drop (length bs) (0 ∷ 0 ∷ 0 ∷ 0 ∷ [])) ≡ value 256 (take 4 bs)
+le_value_filled [] h = le_value []
+le_value_filled (a ∷ []) h = le_value (a ∷ [])
+le_value_filled (a ∷ b ∷ []) h = le_value (a ∷ b ∷ [])
+le_value_filled (a ∷ b ∷ c ∷ []) h = le_value (a ∷ b ∷ c ∷ [])
+le_value_filled (a ∷ b ∷ c ∷ d ∷ bs) h = absurd (omega arith)
 
 -- 1 << w, of a word of b numbers that has room for it
 pub one_shifted_in : (b m w : ℕ) → 2 ^ m < b → w ≤ m → 1 * 2 ^ w % b ≡ 2 ^ w

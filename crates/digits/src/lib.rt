@@ -3,47 +3,23 @@
 
 ghost use Rattle.std.specs.Prelude.{◌≡◌, ℕ, ◌+◌, ◌*◌, ◌/◌, ◌%◌, ◌^◌, ◌≤◌, ◌<◌, length, get_or, take, drop};
 ghost use Rattle.digits.specs.Digits.{value, bytes, byte_count};
-ghost use Rattle.digits.specs.Inner.{Flushed};
-
-fn byte(s: &[u8], i: usize) -> u32
-    requires { i < length s.now }
-    ensures { (result ≡ get_or s.now i 0) × (result < 256) }
-{
-    s[i] as u32
-}
-
-// The same, and 0 past the end.
-fn byte_or_zero(s: &[u8], i: usize) -> u32
-    ensures { (result ≡ get_or s.now i 0) × (result < 256) }
-{
-    if i < s.len() { byte(s, i) } else { 0 }
-}
-
-// One number of four bytes, lowest first.
-fn joined(b0: u32, b1: u32, b2: u32, b3: u32) -> u32
-    requires { (b0 < 256) × (b1 < 256) × (b2 < 256) × (b3 < 256) }
-    ensures { result ≡ b0 + 256 * (b1 + 256 * (b2 + 256 * b3)) }
-{
-    b0 + 256 * b1 + 65536 * b2 + 16777216 * b3
-}
+ghost use Rattle.digits.specs.Inner.{Pushed, Flushed};
 
 // The four bytes from a place on, as one little-endian number; bytes past the end count as 0.
 pub fn window(s: &[u8], at: usize) -> u32
     requires { at < 2 ^ 40 }
     ensures { result ≡ value 256 (take 4 (drop at s.now)) }
 {
-    let i1 = at + 1;
-    let i2 = at + 2;
-    let i3 = at + 3;
-    if i3 < s.len() {
-        return joined(byte(s, at), byte(s, i1), byte(s, i2), byte(s, i3));
+    let Some(rest) = s.get(at..) else {
+        return 0;
+    };
+    // Mostly all four are there, and are read at once.
+    if let Some(bytes) = rest.first_chunk::<4>() {
+        return u32::from_le_bytes(*bytes);
     }
-    joined(
-        byte_or_zero(s, at),
-        byte_or_zero(s, i1),
-        byte_or_zero(s, i2),
-        byte_or_zero(s, i3),
-    )
+    let mut bytes = [0; 4];
+    bytes[..rest.len()].copy_from_slice(rest);
+    u32::from_le_bytes(bytes)
 }
 
 // Code i of w bits.
@@ -52,9 +28,7 @@ pub fn code_at(s: &[u8], w: usize, i: usize) -> u32
     ensures { result ≡ value 256 s.now / 2 ^ (w * i) % 2 ^ w }
 {
     let p = w * i;
-    let shift = (p % 8) as u32;
-    let wide = w as u32;
-    (window(s, p / 8) >> shift) % (1u32 << wide)
+    (window(s, p / 8) >> (p % 8)) % (1 << w)
 }
 
 // Bits on their way out: `bits` of them wait in `held`, and `at` bytes are written.
@@ -65,24 +39,27 @@ struct Waiting {
     at: usize,
 }
 
-// Writes the whole bytes that wait.
-fn flush(out: &mut [u8], first: Waiting) -> Waiting
-    requires { (first.held < 2 ^ first.bits) × (first.bits ≤ 32) × (8 * first.at + first.bits ≤ 8 * length out.old) }
-    ensures { Flushed out.old first out.new result }
-{
-    let mut held = first.held;
-    let mut bits = first.bits;
-    let mut at = first.at;
-    while 8 <= bits {
-        out[at] = (held % 256) as u8;
-        held = held / 256;
-        bits = bits - 8;
-        at = at + 1;
+impl Waiting {
+    // A code of w bits more, above those that wait.
+    fn push(&mut self, code: u32, w: usize)
+        requires { (self.old.bits < 8) × (self.old.held < 2 ^ self.old.bits) × (w ≤ 20) × (code < 2 ^ w) }
+        ensures { Pushed self.old code w self.new }
+    {
+        self.held += u64::from(code) << self.bits;
+        self.bits += w;
     }
-    Waiting {
-        held: held,
-        bits: bits,
-        at: at,
+
+    // Writes the whole bytes that wait. How many they are, the bits say: no index is counted.
+    fn flush(&mut self, out: &mut [u8])
+        requires { (self.old.held < 2 ^ self.old.bits) × (self.old.bits ≤ 32) × (8 * self.old.at + self.old.bits ≤ 8 * length out.old) }
+        ensures { Flushed out.old self.old out.new self.new }
+    {
+        while 8 <= self.bits {
+            out[self.at] = (self.held % 256) as u8;
+            self.held /= 256;
+            self.bits -= 8;
+            self.at += 1;
+        }
     }
 }
 
@@ -92,25 +69,16 @@ pub fn pack_codes(codes: &[u32], w: usize, out: &mut [u8])
     requires out_len { length out.old ≡ byte_count w (length codes.now) }
     ensures { out.new ≡ bytes w (byte_count w (length codes.now)) codes.now }
 {
-    let mut held: u64 = 0;
-    let mut bits: usize = 0;
-    let mut at: usize = 0;
-    let mut i: usize = 0;
-    while i < codes.len() {
-        let left = flush(
-            out,
-            Waiting {
-                held: held + ((codes[i] as u64) << (bits as u32)),
-                bits: bits + w,
-                at: at,
-            },
-        );
-        held = left.held;
-        bits = left.bits;
-        at = left.at;
-        i += 1;
+    let mut waiting = Waiting {
+        held: 0,
+        bits: 0,
+        at: 0,
+    };
+    for &code in codes {
+        waiting.push(code, w);
+        waiting.flush(out);
     }
-    if 0 < bits {
-        out[at] = (held % 256) as u8;
+    if 0 < waiting.bits {
+        out[waiting.at] = (waiting.held % 256) as u8;
     }
 }

@@ -3,35 +3,9 @@ use Prim.Native.Nat.{ℕ, zero, suc, ◌+◌, ◌*◌, ◌/◌, ◌%◌, ◌-◌
 use mathlib.Core.Path.{◌≡◌, refl, ◌∙◌, sym, ap, subst}
 use native.Mathlib.Omega.{arith}
 use native.Mathlib.Nat.{add_comm, add-mul, add-zero, mod-lt, mul-mod_left}
-use lib.Arith.{bin_ind}
-use lib.Bits.{bit_xor, bit_and, bit_or, xor_shr, xor_mod, xor_comm, xor_lt, or_lt, and_mask, xor_add_and, or_add_and, or_shifted}
+use lib.Bits.{bit_xor, bit_and, bit_or, xor_assoc, xor_comm, xor_lt, or_lt, and_mask, xor_add_and, or_add_and, or_shifted}
 use lib.Pow.{mod-pow-add, shl-shr, shr_lt, shr_le, low, high, split, ones_split, pow_pos}
 use Rattle.keccak.specs.Keccak.{rot}
-
--- ---- exclusive or is associative
-
-bit_assoc : (x y z : ℕ) → x < 2 → y < 2 → z < 2 → bit_xor (bit_xor x y) z ≡ bit_xor x (bit_xor y z)
-bit_assoc zero y z hx hy hz = refl
-bit_assoc (suc zero) zero z hx hy hz = refl
-bit_assoc (suc zero) (suc zero) zero hx hy hz = refl
-bit_assoc (suc zero) (suc zero) (suc zero) hx hy hz = refl
-bit_assoc (suc zero) (suc zero) (suc (suc z)) hx hy hz = absurd (omega arith)
-bit_assoc (suc zero) (suc (suc y)) z hx hy hz = absurd (omega arith)
-bit_assoc (suc (suc x)) y z hx hy hz = absurd (omega arith)
-
-by_halves : (m n : ℕ) → m / 2 ≡ n / 2 → m % 2 ≡ n % 2 → m ≡ n
-by_halves m n h r = omega arith
-
-pub xor_assoc : (a b c : ℕ) → bit_xor (bit_xor a b) c ≡ bit_xor a (bit_xor b c)
-xor_assoc a =
-    bin_ind (λ (n : ℕ). (b c : ℕ) → bit_xor (bit_xor n b) c ≡ bit_xor n (bit_xor b c)) (λ b c. refl)
-    (λ n ih b c. by_halves (bit_xor (bit_xor n b) c) (bit_xor n (bit_xor b c))
-    (xor_shr (bit_xor n b) c 1 ∙ ap (λ (v : ℕ). bit_xor v (c / 2)) (xor_shr n b 1) ∙ ih (b / 2) (c / 2) ∙
-    sym (xor_shr n (bit_xor b c) 1 ∙ ap (bit_xor (n / 2)) (xor_shr b c 1)))
-    (xor_mod (bit_xor n b) c 1 ∙ ap (λ (v : ℕ). bit_xor v (c % 2)) (xor_mod n b 1) ∙
-    bit_assoc (n % 2) (b % 2) (c % 2) (omega arith) (omega arith) (omega arith) ∙
-    sym (xor_mod n (bit_xor b c) 1 ∙ ap (bit_xor (n % 2)) (xor_mod b c 1))))
-    a
 
 -- ---- the complement of 64 bits
 

@@ -5,7 +5,9 @@ use mathlib.Core.Bool.{Bool, true, false, not}
 use mathlib.Core.List.{List, [], ◌∷◌}
 use native.Mathlib.Omega.{arith}
 use native.Mathlib.Nat.{mod-mod}
-use lib.ListN.{get_or, length}
+use native.Mathlib.Numerals.{add-one}
+use lib.ListN.{get_or, length, drop}
+use lib.Seq.{drop-cons}
 use lib.Bits.{bit_xor, bit_and, bit_or, xor_lt, and_le_r}
 use Rattle.keccak.specs.Keccak.{state, lane, rot, parity, effect, offsets, theta, rho, pi, chi, iota, at_origin, round, rounds, constants, keccak}
 use Rattle.keccak.specs.Inner.{signed, differs, sign, flipped, effects, parity_sign, effect_sign, moved_sign, moved, gate, held_lane, held_round}
@@ -139,6 +141,18 @@ module _ (a b : List (List ℕ)) (h : Holds a b) where
 unfoldable pub held_rounds : List ℕ → List (List ℕ) → List (List ℕ)
 held_rounds [] b = b
 held_rounds (rc ∷ rcs) b = held_rounds rcs (held_round rc b)
+
+-- the constants of two rounds at a time, one after the other
+abbrev pub in_turn : List (List ℕ) → List ℕ
+in_turn [] = []
+in_turn (pair ∷ pairs) = get_or pair 0 0 ∷ get_or pair 1 0 ∷ in_turn pairs
+
+-- two rounds more
+pub held_rounds-drop : (pairs : List (List ℕ)) (i : ℕ) (b : List (List ℕ)) → i < length pairs
+    → held_rounds (in_turn (drop (i + 1) pairs)) (held_round (get_or (get_or pairs i []) 1 0) (held_round (get_or (get_or pairs i []) 0 0) b))
+    ≡ held_rounds (in_turn (drop i pairs)) b
+unfolding held_rounds
+held_rounds-drop pairs i b h = rw (add-one, drop-cons pairs i [] h)
 
 abbrev pub Lanes : List ℕ → Type 0
 Lanes [] = Unit {0}

@@ -20,20 +20,15 @@ below_five P p0 p1 p2 p3 p4 (suc (suc (suc zero))) h = p3
 below_five P p0 p1 p2 p3 p4 (suc (suc (suc (suc zero)))) h = p4
 below_five P p0 p1 p2 p3 p4 (suc (suc (suc (suc (suc i))))) h = absurd (omega arith)
 
--- five elements, by their places
-pub five : {A : Type 0} (d : A) (l : List A) → length l ≡ 5 → l ≡ get_or l 0 d ∷ get_or l 1 d ∷ get_or l 2 d ∷ get_or l 3 d ∷ get_or l 4 d ∷ []
-five d [] h = absurd (omega arith)
-five d (a ∷ []) h = absurd (omega arith)
-five d (a ∷ b ∷ []) h = absurd (omega arith)
-five d (a ∷ b ∷ c ∷ []) h = absurd (omega arith)
-five d (a ∷ b ∷ c ∷ e ∷ []) h = absurd (omega arith)
-five d (a ∷ b ∷ c ∷ e ∷ f ∷ []) h = refl
-five d (a ∷ b ∷ c ∷ e ∷ f ∷ g ∷ l) h = absurd (omega arith)
-
--- the rows that f gives, stored
-pub stored : (l : List (List ℕ)) (f : ℕ → List ℕ) {r0 r1 r2 r3 r4 : List ℕ} → r0 ≡ f 0 → r1 ≡ f 1 → r2 ≡ f 2 → r3 ≡ f 3 → r4 ≡ f 4 → length l ≡ 5
-    → set (set (set (set (set l 0 r0) 1 r1) 2 r2) 3 r3) 4 r4 ≡ f 0 ∷ f 1 ∷ f 2 ∷ f 3 ∷ f 4 ∷ []
-stored l f e0 e1 e2 e3 e4 h = rw (five [] l h, e0, e1, e2, e3, e4)
+-- five elements, stored one by one
+pub stored : {A : Type 0} (l : List A) (r0 r1 r2 r3 r4 : A) → length l ≡ 5 → set (set (set (set (set l 0 r0) 1 r1) 2 r2) 3 r3) 4 r4 ≡ r0 ∷ r1 ∷ r2 ∷ r3 ∷ r4 ∷ []
+stored [] r0 r1 r2 r3 r4 h = absurd (omega arith)
+stored (a ∷ []) r0 r1 r2 r3 r4 h = absurd (omega arith)
+stored (a ∷ b ∷ []) r0 r1 r2 r3 r4 h = absurd (omega arith)
+stored (a ∷ b ∷ c ∷ []) r0 r1 r2 r3 r4 h = absurd (omega arith)
+stored (a ∷ b ∷ c ∷ d ∷ []) r0 r1 r2 r3 r4 h = absurd (omega arith)
+stored (a ∷ b ∷ c ∷ d ∷ e ∷ []) r0 r1 r2 r3 r4 h = refl
+stored (a ∷ b ∷ c ∷ d ∷ e ∷ f ∷ l) r0 r1 r2 r3 r4 h = absurd (omega arith)
 
 -- a lane of the state that f gives
 pub lane_state : (f : ℕ → ℕ → ℕ) (x y : ℕ) → lane (state f) x y ≡ f (x % 5) (y % 5)

@@ -42,11 +42,7 @@ const RC: [u64; 24] = [
 fn flip(a: [[u64; 5]; 5]) -> [[u64; 5]; 5]
     ensures { result ≡ flipped a }
 {
-    let r0 = a[0];
-    let r1 = a[1];
-    let r2 = a[2];
-    let r3 = a[3];
-    let r4 = a[4];
+    let [r0, r1, r2, r3, r4] = a;
     [
         [r0[0], !r0[1], !r0[2], r0[3], r0[4]],
         [r1[0], r1[1], r1[2], !r1[3], r1[4]],
@@ -60,39 +56,32 @@ fn flip(a: [[u64; 5]; 5]) -> [[u64; 5]; 5]
 fn effect(a: &[[u64; 5]; 5]) -> [u64; 5]
     ensures { result ≡ effects a.now }
 {
-    let r0 = a[0];
-    let r1 = a[1];
-    let r2 = a[2];
-    let r3 = a[3];
-    let r4 = a[4];
+    let [r0, r1, r2, r3, r4] = a;
     let c0 = r0[0] ^ r1[0] ^ r2[0] ^ r3[0] ^ r4[0];
     let c1 = r0[1] ^ r1[1] ^ r2[1] ^ r3[1] ^ r4[1];
     let c2 = r0[2] ^ r1[2] ^ r2[2] ^ r3[2] ^ r4[2];
     let c3 = r0[3] ^ r1[3] ^ r2[3] ^ r3[3] ^ r4[3];
     let c4 = r0[4] ^ r1[4] ^ r2[4] ^ r3[4] ^ r4[4];
     [
-        c4 ^ ((c1 << 1) | (c1 >> 63)),
-        c0 ^ ((c2 << 1) | (c2 >> 63)),
-        c1 ^ ((c3 << 1) | (c3 >> 63)),
-        c2 ^ ((c4 << 1) | (c4 >> 63)),
-        c3 ^ ((c0 << 1) | (c0 >> 63)),
+        c4 ^ c1.rotate_left(1),
+        c0 ^ c2.rotate_left(1),
+        c1 ^ c3.rotate_left(1),
+        c2 ^ c4.rotate_left(1),
+        c3 ^ c0.rotate_left(1),
     ]
 }
 
 // Row 0 of what a round gives, and below it the other rows: the lanes that π puts there, each with its column's effect
-// and turned by its offset of ρ, and then χ over the row. ι adds the constant `rc` to row 0 alone.
-fn row0(a: &[[u64; 5]; 5], d0: u64, d1: u64, d2: u64, d3: u64, d4: u64, rc: u64) -> [u64; 5]
-    ensures { result ≡ row (held_lane rc (d0 ∷ d1 ∷ d2 ∷ d3 ∷ d4 ∷ []) a.now) 0 }
+// and turned by its offset of ρ, and then χ over the row. ι adds the constant `rc` to row 0 alone. They are five functions,
+// since which lanes are held complemented, and so where χ has `&` and where `|`, differs from row to row.
+fn row0(a: &[[u64; 5]; 5], d: &[u64; 5], rc: u64) -> [u64; 5]
+    ensures { result ≡ row (held_lane rc d.now a.now) 0 }
 {
-    let b0 = a[0][0] ^ d0;
-    let t1 = a[1][1] ^ d1;
-    let b1 = (t1 << 44) | (t1 >> 20);
-    let t2 = a[2][2] ^ d2;
-    let b2 = (t2 << 43) | (t2 >> 21);
-    let t3 = a[3][3] ^ d3;
-    let b3 = (t3 << 21) | (t3 >> 43);
-    let t4 = a[4][4] ^ d4;
-    let b4 = (t4 << 14) | (t4 >> 50);
+    let b0 = a[0][0] ^ d[0];
+    let b1 = (a[1][1] ^ d[1]).rotate_left(44);
+    let b2 = (a[2][2] ^ d[2]).rotate_left(43);
+    let b3 = (a[3][3] ^ d[3]).rotate_left(21);
+    let b4 = (a[4][4] ^ d[4]).rotate_left(14);
     [
         b0 ^ (b1 | b2) ^ rc,
         b1 ^ (!b2 | b3),
@@ -102,19 +91,14 @@ fn row0(a: &[[u64; 5]; 5], d0: u64, d1: u64, d2: u64, d3: u64, d4: u64, rc: u64)
     ]
 }
 
-fn row1(a: &[[u64; 5]; 5], d0: u64, d1: u64, d2: u64, d3: u64, d4: u64) -> [u64; 5]
-    ensures { result ≡ row (held_lane 0 (d0 ∷ d1 ∷ d2 ∷ d3 ∷ d4 ∷ []) a.now) 1 }
+fn row1(a: &[[u64; 5]; 5], d: &[u64; 5]) -> [u64; 5]
+    ensures { result ≡ row (held_lane 0 d.now a.now) 1 }
 {
-    let t0 = a[0][3] ^ d3;
-    let b0 = (t0 << 28) | (t0 >> 36);
-    let t1 = a[1][4] ^ d4;
-    let b1 = (t1 << 20) | (t1 >> 44);
-    let t2 = a[2][0] ^ d0;
-    let b2 = (t2 << 3) | (t2 >> 61);
-    let t3 = a[3][1] ^ d1;
-    let b3 = (t3 << 45) | (t3 >> 19);
-    let t4 = a[4][2] ^ d2;
-    let b4 = (t4 << 61) | (t4 >> 3);
+    let b0 = (a[0][3] ^ d[3]).rotate_left(28);
+    let b1 = (a[1][4] ^ d[4]).rotate_left(20);
+    let b2 = (a[2][0] ^ d[0]).rotate_left(3);
+    let b3 = (a[3][1] ^ d[1]).rotate_left(45);
+    let b4 = (a[4][2] ^ d[2]).rotate_left(61);
     [
         b0 ^ (b1 | b2),
         b1 ^ (b2 & b3),
@@ -124,19 +108,14 @@ fn row1(a: &[[u64; 5]; 5], d0: u64, d1: u64, d2: u64, d3: u64, d4: u64) -> [u64;
     ]
 }
 
-fn row2(a: &[[u64; 5]; 5], d0: u64, d1: u64, d2: u64, d3: u64, d4: u64) -> [u64; 5]
-    ensures { result ≡ row (held_lane 0 (d0 ∷ d1 ∷ d2 ∷ d3 ∷ d4 ∷ []) a.now) 2 }
+fn row2(a: &[[u64; 5]; 5], d: &[u64; 5]) -> [u64; 5]
+    ensures { result ≡ row (held_lane 0 d.now a.now) 2 }
 {
-    let t0 = a[0][1] ^ d1;
-    let b0 = (t0 << 1) | (t0 >> 63);
-    let t1 = a[1][2] ^ d2;
-    let b1 = (t1 << 6) | (t1 >> 58);
-    let t2 = a[2][3] ^ d3;
-    let b2 = (t2 << 25) | (t2 >> 39);
-    let t3 = a[3][4] ^ d4;
-    let b3 = (t3 << 8) | (t3 >> 56);
-    let t4 = a[4][0] ^ d0;
-    let b4 = (t4 << 18) | (t4 >> 46);
+    let b0 = (a[0][1] ^ d[1]).rotate_left(1);
+    let b1 = (a[1][2] ^ d[2]).rotate_left(6);
+    let b2 = (a[2][3] ^ d[3]).rotate_left(25);
+    let b3 = (a[3][4] ^ d[4]).rotate_left(8);
+    let b4 = (a[4][0] ^ d[0]).rotate_left(18);
     [
         b0 ^ (b1 | b2),
         b1 ^ (b2 & b3),
@@ -146,19 +125,14 @@ fn row2(a: &[[u64; 5]; 5], d0: u64, d1: u64, d2: u64, d3: u64, d4: u64) -> [u64;
     ]
 }
 
-fn row3(a: &[[u64; 5]; 5], d0: u64, d1: u64, d2: u64, d3: u64, d4: u64) -> [u64; 5]
-    ensures { result ≡ row (held_lane 0 (d0 ∷ d1 ∷ d2 ∷ d3 ∷ d4 ∷ []) a.now) 3 }
+fn row3(a: &[[u64; 5]; 5], d: &[u64; 5]) -> [u64; 5]
+    ensures { result ≡ row (held_lane 0 d.now a.now) 3 }
 {
-    let t0 = a[0][4] ^ d4;
-    let b0 = (t0 << 27) | (t0 >> 37);
-    let t1 = a[1][0] ^ d0;
-    let b1 = (t1 << 36) | (t1 >> 28);
-    let t2 = a[2][1] ^ d1;
-    let b2 = (t2 << 10) | (t2 >> 54);
-    let t3 = a[3][2] ^ d2;
-    let b3 = (t3 << 15) | (t3 >> 49);
-    let t4 = a[4][3] ^ d3;
-    let b4 = (t4 << 56) | (t4 >> 8);
+    let b0 = (a[0][4] ^ d[4]).rotate_left(27);
+    let b1 = (a[1][0] ^ d[0]).rotate_left(36);
+    let b2 = (a[2][1] ^ d[1]).rotate_left(10);
+    let b3 = (a[3][2] ^ d[2]).rotate_left(15);
+    let b4 = (a[4][3] ^ d[3]).rotate_left(56);
     [
         b0 ^ (b1 & b2),
         b1 ^ (b2 | b3),
@@ -168,19 +142,14 @@ fn row3(a: &[[u64; 5]; 5], d0: u64, d1: u64, d2: u64, d3: u64, d4: u64) -> [u64;
     ]
 }
 
-fn row4(a: &[[u64; 5]; 5], d0: u64, d1: u64, d2: u64, d3: u64, d4: u64) -> [u64; 5]
-    ensures { result ≡ row (held_lane 0 (d0 ∷ d1 ∷ d2 ∷ d3 ∷ d4 ∷ []) a.now) 4 }
+fn row4(a: &[[u64; 5]; 5], d: &[u64; 5]) -> [u64; 5]
+    ensures { result ≡ row (held_lane 0 d.now a.now) 4 }
 {
-    let t0 = a[0][2] ^ d2;
-    let b0 = (t0 << 62) | (t0 >> 2);
-    let t1 = a[1][3] ^ d3;
-    let b1 = (t1 << 55) | (t1 >> 9);
-    let t2 = a[2][4] ^ d4;
-    let b2 = (t2 << 39) | (t2 >> 25);
-    let t3 = a[3][0] ^ d0;
-    let b3 = (t3 << 41) | (t3 >> 23);
-    let t4 = a[4][1] ^ d1;
-    let b4 = (t4 << 2) | (t4 >> 62);
+    let b0 = (a[0][2] ^ d[2]).rotate_left(62);
+    let b1 = (a[1][3] ^ d[3]).rotate_left(55);
+    let b2 = (a[2][4] ^ d[4]).rotate_left(39);
+    let b3 = (a[3][0] ^ d[0]).rotate_left(41);
+    let b4 = (a[4][1] ^ d[1]).rotate_left(2);
     [
         b0 ^ (!b1 & b2),
         b1 ^ (!b2 & !b3),
@@ -190,37 +159,30 @@ fn row4(a: &[[u64; 5]; 5], d0: u64, d1: u64, d2: u64, d3: u64, d4: u64) -> [u64;
     ]
 }
 
-// A round with the constant `rc`, of a state that is held as `flip` leaves it. (That `out` has five rows its type says, but
-// not to a proof: hence the `requires`.)
+// A round with the constant `rc`, of a state that is held as `flip` leaves it. (One assignment of all rows to `*out` was
+// tried: it is built on the stack and copied, and the permutation takes 1.3 times as long.)
+#[tactic(auto, using(crate::proofs::Shape::stored), unfolding(crate::specs::Inner::held_round))]
 fn round(a: &[[u64; 5]; 5], rc: u64, out: &mut [[u64; 5]; 5])
-    requires { length out.old ≡ 5 }
     ensures { out.new ≡ held_round rc a.now }
 {
     let d = effect(a);
-    let d0 = d[0];
-    let d1 = d[1];
-    let d2 = d[2];
-    let d3 = d[3];
-    let d4 = d[4];
-    out[0] = row0(a, d0, d1, d2, d3, d4, rc);
-    out[1] = row1(a, d0, d1, d2, d3, d4);
-    out[2] = row2(a, d0, d1, d2, d3, d4);
-    out[3] = row3(a, d0, d1, d2, d3, d4);
-    out[4] = row4(a, d0, d1, d2, d3, d4);
+    out[0] = row0(a, &d, rc);
+    out[1] = row1(a, &d);
+    out[2] = row2(a, &d);
+    out[3] = row3(a, &d);
+    out[4] = row4(a, &d);
 }
 
-// SPEC 4.7: the permutation. The constants go to a local once, since an array constant is stored anew wherever it is used.
+// SPEC 4.7: the permutation. (`round` by value was tried: the state is copied, and it takes at least 1.1 times as long.)
 pub fn permute(a: [[u64; 5]; 5]) -> [[u64; 5]; 5]
     ensures { result ≡ keccak a }
 {
-    let table = RC;
     let mut s = flip(a);
-    let mut t = [[0u64; 5]; 5];
-    let mut i: usize = 0;
-    while i < 24 {
-        round(&s, table[i], &mut t);
-        round(&t, table[i + 1], &mut s);
-        i += 2;
+    let mut t = [[0; 5]; 5];
+    let (pairs, _) = RC.as_chunks::<2>();
+    for &[even, odd] in pairs {
+        round(&s, even, &mut t);
+        round(&t, odd, &mut s);
     }
     flip(s)
 }

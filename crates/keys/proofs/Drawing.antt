@@ -5,8 +5,8 @@ use Prim.Native.Nat.{ℕ}
 use native.Mathlib.Omega.{arith}
 use Rattle.sets.specs.Set.{Set}
 use Rattle.answers.specs.declared.Refusal.{Refusal}
-use Rattle.answers.specs.declared.Answer.{Answer}
-use Rattle.answers.specs.declared.Answer.TheVariants.{Done, Refused}
+use Rattle.answers.specs.Refusals.{Answer}
+use Rattle.std.specs.Prelude.{Ok, Err}
 use Rattle.answers.specs.Inner.{Gives}
 use Rattle.answers.proofs.Giving.{bind_ill, bind_well, gives_then}
 use Rattle.shake.specs.Shake.{shake256}
@@ -19,18 +19,18 @@ use Rattle.workspace.proofs.Holding.{holds_kept}
 use Rattle.keys.specs.Inner.{drawn_from, Held}
 
 module _ (p : Set) (ζ seeds w0 w1 : List ℕ) (r1 : Answer) (f1 : Fills p place.A (expand_a p shake256 ζ) w0 r1 w1) where
-  pub no_a : (why : Refusal) → r1 ≡ Refused why → Gives (drawn_from p ζ seeds) (λ d. Held p d w1) (Refused why)
+  pub no_a : (why : Refusal) → r1 ≡ Err why → Gives (drawn_from p ζ seeds) (λ d. Held p d w1) (Err why)
   unfolding drawn_from
   no_a why e = bind_ill _ why (f1.gives.ill why e)
 
-  module _ (d1 : r1 ≡ Done) (w2 : List ℕ) (r2 : Answer) (f2 : Fills p place.S1 (expand_s p shake256 (bytes_of p part.Xi1 seeds)) w1 r2 w2) where
-    pub no_s1 : (why : Refusal) → r2 ≡ Refused why → Gives (drawn_from p ζ seeds) (λ d. Held p d w2) (Refused why)
+  module _ (d1 : r1 ≡ Ok tt) (w2 : List ℕ) (r2 : Answer) (f2 : Fills p place.S1 (expand_s p shake256 (bytes_of p part.Xi1 seeds)) w1 r2 w2) where
+    pub no_s1 : (why : Refusal) → r2 ≡ Err why → Gives (drawn_from p ζ seeds) (λ d. Held p d w2) (Err why)
     unfolding drawn_from
     no_s1 why e =
         let A = f1.gives.well d1 in
         bind_well _ A.0 A.1 (bind_ill _ why (f2.gives.ill why e))
 
-    pub drew_all : r2 ≡ Done → (w3 : List ℕ) (r3 : Answer) → Fills p place.S2 (expand_s p shake256 (bytes_of p part.Xi2 seeds)) w2 r3 w3
+    pub drew_all : r2 ≡ Ok tt → (w3 : List ℕ) (r3 : Answer) → Fills p place.S2 (expand_s p shake256 (bytes_of p part.Xi2 seeds)) w2 r3 w3
         → Gives (drawn_from p ζ seeds) (λ d. Held p d w3) r3
     unfolding drawn_from
     drew_all d2 w3 r3 f3 =

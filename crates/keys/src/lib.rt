@@ -17,7 +17,7 @@ ghost use Rattle.workspace.specs.declared.Place.TheVariants as place;
 ghost use Rattle.workspace.specs.Inner.{Room, Ready};
 ghost use Rattle.keys.specs.Inner.{Drawn, drawn_from, Held, Rounded};
 
-use answers::{Answer, Buffer, Refusal};
+use answers::{Buffer, Refusal};
 use packing::parts::{Part, Whole};
 use sets::limits;
 use sets::numbers::Numbers;
@@ -26,19 +26,13 @@ use workspace::arithmetic::{Op, combine, multiply};
 use workspace::drawing::{fill_a, fill_s};
 
 // a from ζ, s1 from ξ1 and s2 from ξ2 (SPEC 7.2).
-fn draw(p: Numbers, zeta: &[u8], seeds: &[u8], work: &mut [u32]) -> Answer
+fn draw(p: Numbers, zeta: &[u8], seeds: &[u8], work: &mut [u32]) -> Result<(), Refusal>
     requires trinomial { Trinomial p × Room p work.old }
     requires seeds_len { length seeds.now ≡ seeds_size }
     ensures { Gives (drawn_from p zeta.now seeds.now) (λ d. Held p d work.new) result }
 {
-    let a = fill_a(p, zeta, work);
-    if let Answer::Refused(refusal) = a {
-        return Answer::Refused(refusal);
-    }
-    let s1 = fill_s(p, Part::Xi1.of(p, seeds), work, Place::S1);
-    if let Answer::Refused(refusal) = s1 {
-        return Answer::Refused(refusal);
-    }
+    fill_a(p, zeta, work)?;
+    fill_s(p, Part::Xi1.of(p, seeds), work, Place::S1)?;
     fill_s(p, Part::Xi2.of(p, seeds), work, Place::S2)
 }
 
@@ -61,16 +55,13 @@ fn make_in(
     public_key: &mut [u8],
     secret_key: &mut [u8],
     work: &mut [u32],
-) -> Answer
+) -> Result<(), Refusal>
     requires trinomial { Trinomial p × Room p work.old }
     requires zeta_len { (length zeta.now ≡ seed_size) × (length seeds.now ≡ seeds_size) }
     requires public_key_len { (length public_key.old ≡ public_size p) × (length secret_key.old ≡ secret_size p) }
     ensures { Is (outcome (pair_from p shake256 zeta.now seeds.now) record { public = public_key.old; secret = secret_key.old }) (report_of result) record { public = public_key.new; secret = secret_key.new } }
 {
-    let drawn = draw(p, zeta, seeds, work);
-    if let Answer::Refused(why) = drawn {
-        return Answer::Refused(why);
-    }
+    draw(p, zeta, seeds, work)?;
     round(p, work);
     write::both(
         p,
@@ -80,7 +71,7 @@ fn make_in(
         public_key,
         secret_key,
     );
-    Answer::Done
+    Ok(())
 }
 
 // The two keys. A wrong length is refused in the order of the parameters, and a dry stream after that (SPEC 7.5).
@@ -92,21 +83,21 @@ pub fn make_keys(
     public_key: &mut [u8],
     secret_key: &mut [u8],
     work: &mut [u32],
-) -> Answer
+) -> Result<(), Refusal>
     requires { Trinomial p × Room p work.old }
     ensures { Is (outcome (make_keys p shake256 zeta.now zeta_prime.now public_key.old secret_key.old) record { public = public_key.old; secret = secret_key.old }) (report_of result) record { public = public_key.new; secret = secret_key.new } }
 {
     if zeta.len() != limits::SEED {
-        return Answer::Refused(Refusal::Length(Buffer::Zeta));
+        return Err(Refusal::Length(Buffer::Zeta));
     }
     if zeta_prime.len() != limits::SEED {
-        return Answer::Refused(Refusal::Length(Buffer::ZetaPrime));
+        return Err(Refusal::Length(Buffer::ZetaPrime));
     }
     if public_key.len() != Whole::PublicKey.size(p) {
-        return Answer::Refused(Refusal::Length(Buffer::PublicKey));
+        return Err(Refusal::Length(Buffer::PublicKey));
     }
     if secret_key.len() != Whole::SecretKey.size(p) {
-        return Answer::Refused(Refusal::Length(Buffer::SecretKey));
+        return Err(Refusal::Length(Buffer::SecretKey));
     }
     let mut seeds = [0u8; limits::SEEDS];
     shake::shake256(zeta_prime, b"", b"", &mut seeds);

@@ -22,7 +22,7 @@ fn public(p: Numbers, zeta: &[u8], work: &[u32], out: &mut [u8])
     requires trinomial { Trinomial p × Room p work.now }
     requires zeta_len { (length zeta.now ≡ seed_size) × (length out.old ≡ public_size p) }
     requires packable { Packable p (t1_layout p) place.T1 work.now }
-    ensures { out.new ≡ pack_public p record { zeta = zeta.entry.now; t1 = values p place.T1 work.now } }
+    ensures { out.new ≡ pack_public p record { zeta = zeta.now; t1 = values p place.T1 work.now } }
 {
     Part::PublicZeta.put(p, out, zeta);
     put(p, Layout::of(p, Field::T1), Part::T1, work, Place::T1, out);
@@ -33,7 +33,7 @@ fn secret(p: Numbers, zeta: &[u8], ph: &[u8], k: &[u8], work: &[u32], out: &mut 
     requires trinomial { Trinomial p × Room p work.now }
     requires zeta_len { (length zeta.now ≡ seed_size) × (length ph.now ≡ hash_size) × (length k.now ≡ seed_size) × (length out.old ≡ secret_size p) }
     requires packable { Packable p (s_layout p) place.S1 work.now × Packable p (s_layout p) place.S2 work.now × Packable p (t0_layout p) place.T0 work.now }
-    ensures { out.new ≡ pack_secret p record { zeta = zeta.entry.now; ph = ph.now; k = k.now; s1 = values p place.S1 work.now; s2 = values p place.S2 work.now; t0 = values p place.T0 work.now } }
+    ensures { out.new ≡ pack_secret p record { zeta = zeta.now; ph = ph.now; k = k.now; s1 = values p place.S1 work.now; s2 = values p place.S2 work.now; t0 = values p place.T0 work.now } }
 {
     Part::SecretZeta.put(p, out, zeta);
     Part::Ph.put(p, out, ph);
@@ -56,8 +56,8 @@ pub(crate) fn both(
     requires zeta_len { (length zeta.now ≡ seed_size) × (length k.now ≡ seed_size) }
     requires public_key_len { (length public_key.old ≡ public_size p) × (length secret_key.old ≡ secret_size p) }
     requires packable { Packable p (t1_layout p) place.T1 work.now × Packable p (s_layout p) place.S1 work.now × Packable p (s_layout p) place.S2 work.now × Packable p (t0_layout p) place.T0 work.now }
-    ensures public_key_after { public_key.new ≡ pack_public p record { zeta = zeta.entry.now; t1 = values p place.T1 work.now } }
-    ensures secret_key_after { secret_key.new ≡ pack_secret p record { zeta = zeta.entry.now; ph = ph_of shake256 public_key.new; k = k.now; s1 = values p place.S1 work.now; s2 = values p place.S2 work.now; t0 = values p place.T0 work.now } }
+    ensures public_key_after { public_key.new ≡ pack_public p record { zeta = zeta.now; t1 = values p place.T1 work.now } }
+    ensures secret_key_after { secret_key.new ≡ pack_secret p record { zeta = zeta.now; ph = ph_of shake256 public_key.new; k = k.now; s1 = values p place.S1 work.now; s2 = values p place.S2 work.now; t0 = values p place.T0 work.now } }
 {
     public(p, zeta, work, public_key);
     let mut ph = [0u8; limits::HASH];

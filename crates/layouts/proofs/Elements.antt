@@ -36,7 +36,7 @@ module _ {A : Type 0} (d : A) (ok : A → Bool) (refusal : ℕ → Refusal) wher
           → (k : ℕ) → k < suc (length xs) → ok (get_or (x ∷ xs) k d) ≡ true
       by true a e ih zero l = a
       by true a e ih (suc k) l = ih e k (omega arith)
-      by false a e ih k l = let z : ◌≡◌ {A = ℕ} 0 1 = cc in absurd (omega arith)
+      by false a e ih k l = cc
 
 -- ---- lists of values
 -- n values that a layout keeps

@@ -1,11 +1,9 @@
--- Hints: ones are counted one after the other, and what the calls make of the count.
+-- Hints: how many ones there are, and what the calls make of the count.
 use mathlib.Core.Path.{◌≡◌, refl, sym, ap, ap₂, ◌∙◌}
 use mathlib.Core.List.{List, [], ◌∷◌, map}
-use Prim.Native.Nat.{ℕ, zero, suc, ◌+◌, ◌≤◌, ◌<◌}
-use native.Mathlib.Numerals.{add-one}
+use Prim.Native.Nat.{ℕ, suc, ◌+◌, ◌≤◌, ◌<◌}
 use native.Mathlib.Omega.{arith}
-use lib.ListN.{length, get_or, take}
-use lib.Seq.{take_all}
+use lib.ListN.{get_or}
 use lib.IntN.{ℤ, pos, nat_abs}
 use Rattle.sets.specs.Set.{Set}
 use Rattle.answers.specs.declared.Refusal.{Refusal}
@@ -15,47 +13,19 @@ use Rattle.answers.proofs.Outcomes.{stops, gives, above, at_most}
 use Rattle.residues.proofs.Remainders.{residue_small}
 use Rattle.digits.specs.Digits.{codes}
 use Rattle.digits.proofs.Codes.{codes_below}
-use Rattle.layouts.specs.declared.unpack.Unpacked.{Unpacked}
-use Rattle.layouts.specs.declared.unpack.Unpacked.TheVariants.{All}
+use Rattle.std.specs.Prelude.{Ok, sum}
+use Rattle.std.proofs.lemmas.List.Sums.{sum_by-cons}
 use Rattle.layouts.specs.Layouts.{hint_layout, code, unpack}
 use Rattle.layouts.specs.Hints.{ones, any_hint, read_hints}
-use Rattle.layouts.specs.Inner.{remainders}
+use Rattle.layouts.specs.Inner.{Unpacked, remainders}
 use Rattle.layouts.proofs.Reading.{some_q}
 use Rattle.layouts.proofs.Packs.{Coding, codes_are, Decoding, read_remainders, read_means}
 
-ones_next : (bits : List ℕ) (i : ℕ) → i < length bits → ones (map pos (take (suc i) bits)) ≡ ones (map pos (take i bits)) + get_or bits i 0
+-- the count of bits is their sum
+pub ones_bits : (bits : List ℕ) → ones (map pos bits) ≡ sum bits
 unfolding ones
-ones_next [] i l = absurd (omega arith)
-ones_next (b ∷ bs) zero l = omega arith
-ones_next (b ∷ bs) (suc i) l = omega (arith, ones_next bs i (omega arith))
-
-module _ (bits : List ℕ) where
-  -- i of them are counted
-  pub record Counted (i count : ℕ) : Type 0 where
-    pub bit : (k : ℕ) → get_or bits k 0 ≤ 1
-    pub room : length bits ≤ 4096
-    pub within : i ≤ length bits
-    pub few : count ≤ i
-    pub same : count ≡ ones (map pos (take i bits))
-
-  pub counted_none : ((k : ℕ) → get_or bits k 0 ≤ 1) × (length bits ≤ 4096) → Counted 0 0
-  unfolding ones
-  counted_none h = record { bit = h.0; room = h.1; within = omega arith; few = omega arith; same = refl }
-
-  module _ (i count : ℕ) (C : Counted i count) where
-    pub counted_more : i < length bits → Counted (i + 1) (count + get_or bits i 0)
-    counted_more l = record {
-      bit = C.bit;
-      room = C.room;
-      within = omega arith;
-      few = omega (arith, C.few, C.bit i);
-      same =
-          ap (λ (x : ℕ). x + get_or bits i 0) C.same ∙ sym (ones_next bits i l) ∙
-          ap (λ (k : ℕ). ones (map pos (take k bits))) (sym (add-one i));
-    }
-
-    pub counted_all : length bits ≤ i → count ≡ ones (map pos bits)
-    counted_all l = C.same ∙ ap (λ (xs : List ℕ). ones (map pos xs)) (take_all i bits l)
+ones_bits [] = refl
+ones_bits (b ∷ bs) = omega (arith, ones_bits bs, sum_by-cons (λ (x : ℕ). x) b bs)
 
 -- ---- the count of packed values and of codes that were read
 pub ones_codes : (zs : List ℤ) → ones (map pos (map (code hint_layout) zs)) ≡ ones zs
@@ -68,7 +38,7 @@ plain_remainders : (q : ℕ) → 0 < q → (vs : List ℕ) → ((k : ℕ) → ge
 plain_remainders q p [] h = refl
 plain_remainders q p (v ∷ vs) h = ap₂ ◌∷◌ (residue_small q p v (h 0)) (plain_remainders q p vs (λ k. h (suc k)))
 
-module _ {q n : ℕ} {packed : List ℕ} {found : Unpacked} {xs : List ℕ} (D : Decoding hint_layout q n packed found xs) (a : found ≡ All) where
+module _ {q n : ℕ} {packed : List ℕ} {found : Unpacked} {xs : List ℕ} (D : Decoding hint_layout q n packed found xs) (a : found ≡ Ok tt) where
   bits_are : xs ≡ codes 1 n packed
   bits_are =
       read_remainders D a ∙
@@ -95,6 +65,6 @@ module _ (p : Set) (packed : List ℕ) where
     read_hints_few l = gives _ h _ e ∙ at_most (ones h) p.omega Hint (done h) l
 
 -- the count of packed hints
-pub count_is : {q n : ℕ} {values : List ℤ} {found : Unpacked} {cs : List ℕ} → Coding hint_layout q n values found cs → found ≡ All
+pub count_is : {q n : ℕ} {values : List ℤ} {found : Unpacked} {cs : List ℕ} → Coding hint_layout q n values found cs → found ≡ Ok tt
     → (count : ℕ) → count ≡ ones (map pos cs) → count ≡ ones values
 count_is {values = values} C a count c = c ∙ ap (λ (xs : List ℕ). ones (map pos xs)) (codes_are C a) ∙ ones_codes values

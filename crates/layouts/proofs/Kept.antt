@@ -18,7 +18,7 @@ sub_sub x y =
 
 pub both : (a b : Bool) → (a && b) ≡ true → (a ≡ true) × (b ≡ true)
 both true b e = (refl, e)
-both false b e = let z : ◌≡◌ {A = ℕ} 0 1 = cc in absurd (omega arith)
+both false b e = cc
 
 -- a code is allowed where it lies between the layout's two ends
 pub allowed_of : (L : Layout) (v : ℕ) → L.least ≤ v → v ≤ L.most → allowed L v ≡ true
@@ -65,7 +65,7 @@ module _ (L : Layout) (z : ℤ) where
           let c : code L z ≡ v = ap nat_abs e in
           let t = allowed_ends L v a in
           record { fits = omega arith; allowed = rw c a; back = rw c (means_written L v z e) }
-      by (negsuc v) e a = let y : ◌≡◌ {A = ℕ} 0 1 = cc in absurd (omega arith)
+      by (negsuc v) e a = cc
 
   pub written_kept : Kept L z → written L z ≡ pos (code L z)
   written_kept k = ap (written L) (sym k.back) ∙ written_means L (code L z)

@@ -2,10 +2,8 @@
 pub mod Kept
 pub mod Elements
 pub mod Room
-pub mod Making
 pub mod Scans
 pub mod Reading
-pub mod Wide
 pub mod Packs
 pub mod Hints
 pub mod Determined

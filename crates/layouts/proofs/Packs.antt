@@ -14,10 +14,9 @@ use Rattle.residues.specs.Remainder.{signed}
 use Rattle.digits.specs.Digits.{codes, bytes, byte_count}
 use Rattle.digits.proofs.Codes.{below_at, length_codes}
 use Rattle.layouts.specs.declared.layout.Layout.{Layout}
-use Rattle.layouts.specs.declared.unpack.Unpacked.{Unpacked}
-use Rattle.layouts.specs.declared.unpack.Unpacked.TheVariants.{All, BadAt}
-use Rattle.layouts.specs.Layouts.{means, code, allowed, holds, every, size, pack, unpack}
-use Rattle.layouts.specs.Inner.{Readable, scan, taken_to, unpacked_to, remainder, remainders}
+use Rattle.std.specs.Prelude.{Ok}
+use Rattle.layouts.specs.Layouts.{means, code, allowed, holds, every, pack, unpack}
+use Rattle.layouts.specs.Inner.{Unpacked, bad_at, Readable, scan, taken_to, unpacked_to, remainder, remainders}
 use Rattle.layouts.proofs.Elements.{every_inv, Element, element_of, below_kept}
 use Rattle.layouts.proofs.Scans.{every_all, every_bad, all_taken, bad_found}
 use Rattle.layouts.proofs.Reading.{signed_remainders, remainders_below, unpack_all, unpack_bad}
@@ -30,10 +29,10 @@ pub record Coding (L : Layout) (q n : ℕ) (values : List ℤ) (found : Unpacked
   pub walk : Is (taken_to (holds L) (code L) values old) found cs
 
 module _ {L : Layout} {q n : ℕ} {values : List ℤ} {found : Unpacked} {cs : List ℕ} (C : Coding L q n values found cs) where
-  pub values_bad : (refusal : ℕ → Refusal) (i : ℕ) → found ≡ BadAt i → every (holds L) refusal 0 values ≡ refused (refusal i)
+  pub values_bad : (refusal : ℕ → Refusal) (i : ℕ) → found ≡ bad_at i → every (holds L) refusal 0 values ≡ refused (refusal i)
   values_bad refusal i b = every_bad (holds L) refusal 0 values i (bad_found (holds L) (code L) values C.old found cs C.walk i b)
 
-  module _ (a : found ≡ All) where
+  module _ (a : found ≡ Ok tt) where
     pub values_good : (refusal : ℕ → Refusal) → every (holds L) refusal 0 values ≡ done tt
     values_good refusal = every_all (holds L) refusal 0 values (all_taken (holds L) (code L) values C.old found cs C.walk a).0
 
@@ -55,10 +54,8 @@ module _ {L : Layout} {q n : ℕ} {values : List ℤ} {found : Unpacked} {cs : L
         (below_kept L values (λ j l. element.kept j (omega (arith, C.long)))) k)
 
     -- what is asked before they are packed, and what packing them gives
-    pub can_pack : n ≤ 4096 → (out : ℕ) → out ≡ size L n
-        → ((0 < L.bits) × (L.bits ≤ 20) × (length cs ≤ 4096) × ((k : ℕ) → get_or cs k 0 < 2 ^ L.bits)) × (out ≡ byte_count L.bits (length cs))
-    can_pack l out e =
-        ((C.readable.some, C.readable.width, omega (arith, codes_long), codes_small), e ∙ ap (byte_count L.bits) (sym codes_long))
+    pub can_pack : n ≤ 4096 → (0 < L.bits) × (L.bits ≤ 20) × (length cs ≤ 4096) × ((k : ℕ) → get_or cs k 0 < 2 ^ L.bits)
+    can_pack l = (C.readable.some, C.readable.width, omega (arith, codes_long), codes_small)
 
     pub packed_is : bytes L.bits (byte_count L.bits (length cs)) cs ≡ pack L n values
     unfolding pack
@@ -79,12 +76,12 @@ module _ {L : Layout} {q n : ℕ} {packed : List ℕ} {found : Unpacked} {xs : L
   unfolding vs
   walked = subst (λ (m : ℕ). Is (taken_to (allowed L) (remainder L q) (codes L.bits m packed) D.old) found xs) D.room D.walk
 
-  pub read_bad : (refusal : ℕ → Refusal) (i : ℕ) → found ≡ BadAt i → unpack L refusal n packed ≡ refused (refusal i)
+  pub read_bad : (refusal : ℕ → Refusal) (i : ℕ) → found ≡ bad_at i → unpack L refusal n packed ≡ refused (refusal i)
   unfolding vs
   read_bad refusal i b = unpack_bad L refusal n packed i (bad_found (allowed L) (remainder L q) vs D.old found xs walked i b)
 
-  module _ (a : found ≡ All) where
-    scanned : (scan (allowed L) 0 vs ≡ All) × (xs ≡ remainders L q vs)
+  module _ (a : found ≡ Ok tt) where
+    scanned : (scan (allowed L) 0 vs ≡ Ok tt) × (xs ≡ remainders L q vs)
     scanned = all_taken (allowed L) (remainder L q) vs D.old found xs walked a
 
     pub read_remainders : xs ≡ remainders L q (codes L.bits n packed)

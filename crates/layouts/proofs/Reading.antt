@@ -5,22 +5,19 @@ use mathlib.Core.List.{List, [], ◌∷◌, map}
 use Prim.Native.Nat.{ℕ, zero, suc, ◌+◌, ◌-◌, ◌*◌, ◌≤◌, ◌<◌}
 use native.Mathlib.Nat.{mod-eq_of_lt}
 use native.Mathlib.Omega.{arith}
-use borrow.Author.Tests.{le-leb, lt-leb}
 use lib.ListN.{get_or}
 use lib.IntN.{pos, nat_abs, ◌-ℤ◌}
 use Rattle.answers.specs.declared.Refusal.{Refusal}
 use Rattle.answers.specs.Result.{done, refused, pick}
 use Rattle.residues.specs.Remainder.{residue, signed, centred}
 use Rattle.residues.proofs.Differences.{pos_sub, sub_ge, sub_lt, abs_sub}
-use Rattle.residues.proofs.Remainders.{residue_lt, residue_small}
+use Rattle.residues.proofs.Remainders.{residue_lt}
 use Rattle.residues.proofs.Centres.{centred_small}
 use Rattle.digits.specs.Digits.{codes}
 use Rattle.layouts.specs.declared.layout.Layout.{Layout}
-use Rattle.layouts.specs.declared.unpack.Code.{Code}
-use Rattle.layouts.specs.declared.unpack.Code.TheVariants.{Good, Bad}
-use Rattle.layouts.specs.declared.unpack.Unpacked.TheVariants.{All, BadAt}
+use Rattle.std.specs.Prelude.{Ok}
 use Rattle.layouts.specs.Layouts.{means, allowed, unpack}
-use Rattle.layouts.specs.Inner.{Readable, taken, scan, remainder, remainders}
+use Rattle.layouts.specs.Inner.{bad_at, Readable, scan, remainder, remainders}
 use Rattle.answers.proofs.Results.{then-done, then-refused}
 use Rattle.layouts.proofs.Kept.{allowed_ends}
 use Rattle.layouts.proofs.Scans.{every_all, every_bad}
@@ -56,16 +53,16 @@ module _ (L : Layout) (q : ℕ) (R : Readable L q) where
   signed_remainder v a = centred_small q some_q (means L v) (means_small v a)
 
   -- the values, from the remainders
-  pub signed_remainders : (i : ℕ) (vs : List ℕ) → scan (allowed L) i vs ≡ All → map (signed q) (remainders L q vs) ≡ map (means L) vs
+  pub signed_remainders : (i : ℕ) (vs : List ℕ) → scan (allowed L) i vs ≡ Ok tt → map (signed q) (remainders L q vs) ≡ map (means L) vs
   unfolding scan
   signed_remainders i [] e = refl
   signed_remainders i (v ∷ vs) e = by (allowed L v) refl e (signed_remainders (suc i) vs)
     where
-      by : (b : Bool) → allowed L v ≡ b → pick b (scan (allowed L) (suc i) vs) (BadAt i) ≡ All
-          → (scan (allowed L) (suc i) vs ≡ All → map (signed q) (remainders L q vs) ≡ map (means L) vs)
+      by : (b : Bool) → allowed L v ≡ b → pick b (scan (allowed L) (suc i) vs) (bad_at i) ≡ Ok tt
+          → (scan (allowed L) (suc i) vs ≡ Ok tt → map (signed q) (remainders L q vs) ≡ map (means L) vs)
           → map (signed q) (remainders L q (v ∷ vs)) ≡ map (means L) (v ∷ vs)
       by true a e ih = ap₂ ◌∷◌ (signed_remainder v a) (ih e)
-      by false a e ih = let z : ◌≡◌ {A = ℕ} 0 1 = cc in absurd (omega arith)
+      by false a e ih = cc
 
   -- the remainders, from the values
   pub residues_means : (vs : List ℕ) → map (residue q) (map (means L) vs) ≡ remainders L q vs
@@ -77,34 +74,12 @@ module _ (L : Layout) (q : ℕ) (R : Readable L q) where
   remainders_below (v ∷ vs) zero = residue_lt q some_q (means L v)
   remainders_below (v ∷ vs) (suc k) = remainders_below vs k
 
--- ---- one code, as the code tests it
-module _ (L : Layout) (q : ℕ) (R : Readable L q) (v : ℕ) where
-  abbrev found : Code
-  found = taken (allowed L) (remainder L q) v
-
-  pub taken_low : v < L.least → Bad ≡ found
-  taken_low l = simp (lt-leb L.least v l)
-
-  pub taken_high : L.least ≤ v → L.most < v → Bad ≡ found
-  taken_high l h = simp (le-leb L.least v l, lt-leb v L.most h)
-
-  taken_good : L.least ≤ v → v ≤ L.most → (x : ℕ) → x ≡ remainder L q v → Good x ≡ found
-  taken_good l h x e = simp (le-leb L.least v l, le-leb v L.most h) (ap Good e)
-
-  pub taken_down : L.least ≤ v → v ≤ L.most → L.down ≡ true → (x : ℕ) → x ≡ residue q (pos L.base -ℤ pos v) → Good x ≡ found
-  taken_down l h d x e = taken_good l h x (e ∙ ap (λ b. residue q (cond b (pos L.base -ℤ pos v) (pos v))) (sym d))
-
-  pub taken_plain : L.least ≤ v → v ≤ L.most → L.down ≡ false → Good v ≡ found
-  taken_plain l h d =
-      taken_good l h v
-      (sym (residue_small q (some_q L q R) v (omega (arith, R.most))) ∙ ap (λ b. residue q (cond b (pos L.base -ℤ pos v) (pos v))) (sym d))
-
 -- ---- the definition's unpacking, by the scan
 module _ (L : Layout) (refusal : ℕ → Refusal) (n : ℕ) (bs : List ℕ) where
-  pub unpack_all : scan (allowed L) 0 (codes L.bits n bs) ≡ All → unpack L refusal n bs ≡ done (map (means L) (codes L.bits n bs))
+  pub unpack_all : scan (allowed L) 0 (codes L.bits n bs) ≡ Ok tt → unpack L refusal n bs ≡ done (map (means L) (codes L.bits n bs))
   unfolding unpack
   unpack_all e = then-done _ tt _ (every_all (allowed L) refusal 0 (codes L.bits n bs) e)
 
-  pub unpack_bad : (i : ℕ) → scan (allowed L) 0 (codes L.bits n bs) ≡ BadAt i → unpack L refusal n bs ≡ refused (refusal i)
+  pub unpack_bad : (i : ℕ) → scan (allowed L) 0 (codes L.bits n bs) ≡ bad_at i → unpack L refusal n bs ≡ refused (refusal i)
   unfolding unpack
   unpack_bad i e = then-refused _ (refusal i) _ (every_bad (allowed L) refusal 0 (codes L.bits n bs) i e)

@@ -7,6 +7,7 @@ use answers::Field;
 use sets::numbers::Numbers;
 
 // A code has `bits` bits. It is the value itself or, where `down` holds, base - value. Codes from `least` to `most` are allowed.
+// `down` and `base` are not one `Option<u32>`: the definitions of specs/Layouts speak of both, and they may not change (SPEC 6.2).
 #[derive(Clone, Copy)]
 pub struct Layout {
     pub bits: usize,
@@ -22,11 +23,11 @@ impl Layout {
         ensures { result ≡ plain bits most }
     {
         Layout {
-            bits: bits,
+            bits,
             down: false,
             base: 0,
             least: 0,
-            most: most,
+            most,
         }
     }
 
@@ -35,11 +36,11 @@ impl Layout {
         ensures { result ≡ down bits base least most }
     {
         Layout {
-            bits: bits,
+            bits,
             down: true,
-            base: base,
-            least: least,
-            most: most,
+            base,
+            least,
+            most,
         }
     }
 
@@ -54,7 +55,7 @@ impl Layout {
         requires { Good p }
         ensures { result ≡ t0_layout p }
     {
-        Layout::down(p.d as usize, 1u32 << (p.d - 1), 0, (1u32 << p.d) - 1)
+        Layout::down(p.d as usize, 1 << (p.d - 1), 0, (1 << p.d) - 1)
     }
 
     fn s(p: Numbers) -> Layout
@@ -76,7 +77,7 @@ impl Layout {
         requires { Good p }
         ensures { result ≡ y_layout p }
     {
-        Layout::down(p.zbits, p.gamma1, 0, (1u32 << (p.zbits as u32)) - 1)
+        Layout::down(p.zbits, p.gamma1, 0, (1 << p.zbits) - 1)
     }
 
     fn w1(p: Numbers) -> Layout
@@ -100,9 +101,7 @@ impl Layout {
         match f {
             Field::T1 => Layout::t1(p),
             Field::T0 => Layout::t0(p),
-            Field::S1 => Layout::s(p),
-            Field::S2 => Layout::s(p),
-            Field::S => Layout::s(p),
+            Field::S1 | Field::S2 | Field::S => Layout::s(p),
             Field::Z => Layout::z(p),
             Field::W1 => Layout::w1(p),
         }
@@ -113,6 +112,6 @@ impl Layout {
         requires { (self.bits ≤ 20) × (n ≤ 4096) }
         ensures { result ≡ size self n }
     {
-        (self.bits * n + 7) / 8
+        (self.bits * n).div_ceil(8)
     }
 }

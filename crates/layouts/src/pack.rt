@@ -5,45 +5,39 @@ ghost use Rattle.layouts.specs.Layouts.{written, code, holds};
 ghost use Rattle.layouts.specs.Inner.{taken, taken_to};
 
 use crate::layout::Layout;
-use crate::unpack::{Code, Unpacked};
+use crate::unpack::BadCode;
 
 // The value or base - value, in 64 bits, so that no value is too large.
 fn written(l: Layout, value: i32) -> i64
     ensures { result ≡ written l value }
 {
+    let value = i64::from(value);
     if l.down {
-        (l.base as i64) - (value as i64)
+        i64::from(l.base) - value
     } else {
-        value as i64
+        value
     }
 }
 
 // The code of a value, where it is allowed.
-fn code_of(l: Layout, value: i32) -> Code
+fn code_of(l: Layout, value: i32) -> Option<u32>
     ensures { result ≡ taken (holds l) (code l) value }
 {
-    let w = written(l, value);
-    if w < (l.least as i64) {
-        return Code::Bad;
-    }
-    if (l.most as i64) < w {
-        return Code::Bad;
-    }
-    Code::Good(w as u32)
+    u32::try_from(written(l, value))
+        .ok()
+        .filter(|code| (l.least..=l.most).contains(code))
 }
 
 // The codes of all values, or the lowest index of one that is not allowed.
-pub fn codes_of(l: Layout, values: &[i32], out: &mut [u32]) -> Unpacked
+pub fn codes_of(l: Layout, values: &[i32], out: &mut [u32]) -> Result<(), BadCode>
     requires { length out.old ≡ length values.now }
     ensures { Is (taken_to (holds l) (code l) values.now out.old) result out.new }
 {
-    let mut i: usize = 0;
-    while i < values.len() {
-        let Code::Good(c) = code_of(l, values[i]) else {
-            return Unpacked::BadAt(i);
+    for (i, &value) in values.iter().enumerate() {
+        let Some(code) = code_of(l, value) else {
+            return Err(BadCode { index: i });
         };
-        out[i] = c;
-        i += 1;
+        out[i] = code;
     }
-    Unpacked::All
+    Ok(())
 }

@@ -1,9 +1,10 @@
 -- From an answer to its number.
-use mathlib.Core.Path.{◌≡◌, refl, sym, ap, subst, ◌∙◌}
+use mathlib.Core.Path.{◌≡◌, sym, ap, subst, ◌∙◌}
 use mathlib.Core.List.{List}
 use Prim.Native.Nat.{ℕ, ◌<◌}
 use native.Mathlib.Omega.{arith}
 use lib.IntN.{ℤ}
+use Rattle.std.specs.Prelude.{Ok, Err}
 use Rattle.outcome.specs.Outcome.{Is}
 use Rattle.sets.specs.Set.{set1}
 use Rattle.answers.specs.declared.Buffer.{Buffer}
@@ -12,18 +13,10 @@ use Rattle.answers.specs.declared.Field.{Field}
 use Rattle.answers.specs.declared.Field.TheVariants.{T1, T0, S1, S2, S, Z, W1}
 use Rattle.answers.specs.declared.Refusal.{Refusal}
 use Rattle.answers.specs.declared.Refusal.TheVariants.{Length, LongMessage, TryLimit, Coefficient, Hint, Dry, Spent, Differs}
-use Rattle.answers.specs.declared.Answer.{Answer}
-use Rattle.answers.specs.declared.Answer.TheVariants.{Done, Refused}
-use Rattle.answers.specs.declared.Signing.{Signing}
-use Rattle.answers.specs.declared.Signing.TheVariants.{Signed as SignedAfter, Refused as RefusedAfter}
 use Rattle.answers.specs.declared.Report.{Report}
-use Rattle.answers.specs.Refusals.{buffer_place, field_place, field_number, refusal_number, refusal_place, report_of, signing_report}
-use Rattle.answers.specs.Result.{Result, done, refused, told, outcome}
-use Rattle.answers.proofs.Reports.{report_one}
+use Rattle.answers.specs.Refusals.{Answer, Signing, buffer_place, field_place, field_number, refusal_number, refusal_place, report_of, signing_report}
+use Rattle.answers.specs.Result.{Result, done, refused, told}
 use Rattle.packing.specs.Calls.{pack_call, unpack_call}
-use Rattle.rounding.specs.declared.set1.Used.{Used}
-use Rattle.rounding.specs.declared.set1.Used.TheVariants.{High, Refused as NoHint}
-use Rattle.rounding.specs.Used.{used_report, reported}
 use Rattle.scheme.specs.Sign.{Signed, sign_told}
 use Rattle.ncc_c.specs.Answer.{encoded, coded, Fits}
 use Rattle.ncc_c.proofs.Small.{Small, of_pack_call, of_unpack_call}
@@ -61,12 +54,12 @@ refusal_low Spent = (omega arith, omega arith)
 refusal_low Differs = (omega arith, omega arith)
 
 pub answer_low : (a : Answer) → ((report_of a).number < 256) × ((report_of a).place < 256)
-answer_low Done = (omega arith, omega arith)
-answer_low (Refused r) = refusal_low r
+answer_low (Ok u) = (omega arith, omega arith)
+answer_low (Err r) = refusal_low r
 
 pub signing_low : (s : Signing) → ((signing_report s).number < 256) × ((signing_report s).place < 256)
-signing_low (SignedAfter count) = (omega arith, omega arith)
-signing_low (RefusedAfter r count) = refusal_low r
+signing_low (Ok count) = (omega arith, omega arith)
+signing_low (Err e) = refusal_low e.why
 
 -- ---- a call's index is small, and its answer becomes a number
 
@@ -95,25 +88,6 @@ module _ (f : Field) where
 
   pub unpack_index : (packed : List ℕ) (out : List ℤ) (a : Answer) → report_of a ≡ told (unpack_call set1 f packed out) → (report_of a).index < 65536
   unpack_index packed out a = answer_index a (of_unpack_call set1 (omega arith) f packed out)
-
--- a hint's high bits are stored, or the number keeps what it held
-pub used_high : (m : Result ℕ) (old v : ℕ) (u : Used) → u ≡ High v → used_report u ≡ reported m → Is (outcome m old) (report_of Done) v
-used_high (done x) old v u e h =
-    record { answers = refl; leaves = ap (λ (y : Used). (used_report y).1) (sym e) ∙ ap (λ (y : Report × ℕ). y.1) h }
-used_high (refused r) old v u e h =
-    let d : Done ≡ Refused r =
-    report_one Done (Refused r) (ap (λ (y : Used). (used_report y).0) (sym e) ∙ ap (λ (y : Report × ℕ). y.0) h) in
-    let z : ◌≡◌ {A = ℕ} 0 1 = cc in
-    absurd (omega arith)
-
-pub used_refused : (m : Result ℕ) (old : ℕ) (why : Refusal) (u : Used) → u ≡ NoHint why → used_report u ≡ reported m → Is (outcome m old) (report_of (Refused why)) old
-used_refused (done x) old why u e h =
-    let d : Refused why ≡ Done =
-    report_one (Refused why) Done (ap (λ (y : Used). (used_report y).0) (sym e) ∙ ap (λ (y : Report × ℕ). y.0) h) in
-    let z : ◌≡◌ {A = ℕ} 0 1 = cc in
-    absurd (omega arith)
-used_refused (refused r) old why u e h =
-    record { answers = ap (λ (y : Used). (used_report y).0) (sym e) ∙ ap (λ (y : Report × ℕ). y.0) h; leaves = refl }
 
 -- signing names the same index
 told_index : (limit : ℕ) (m : Result Signed) → Small m → (sign_told limit m).index < 65536

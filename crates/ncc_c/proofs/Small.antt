@@ -29,7 +29,6 @@ use Rattle.sampling.specs.Samplers.{Drawn, dry, drew, drawn, sample_a, sample_s}
 use Rattle.streams.specs.Streams.{Hash, expand_a, expand_s, expand_c}
 use Rattle.sampling.specs.Calls.{sample_call}
 use Rattle.ring.specs.Calls.{product_call}
-use Rattle.rounding.specs.Used.{used_hint}
 use Rattle.scheme.specs.Elements.{use_hints}
 use Rattle.scheme.specs.Keys.{seeds_of, pair_from, make_pair, make_keys}
 use Rattle.scheme.specs.Try.{Try, passes, fails, try, commit}
@@ -100,10 +99,6 @@ of_product_call p a b out =
     of_check (eqb (length a) p.n) (Length First) refl
     (of_check (eqb (length b) p.n) (Length Second) refl
     (of_check (eqb (length out) p.n) (Length Coefficients) refl of_done))
-
-pub of_used_hint : (p : Set) (h : ℕ) (r : ℤ) → Small (used_hint p h r)
-unfolding used_hint
-of_used_hint p h r = of_check (leb h 1) Hint refl of_done
 
 -- ---- keys and signatures that are read
 

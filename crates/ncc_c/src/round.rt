@@ -7,9 +7,6 @@ ghost use Rattle.rounding.specs.Rounding.{high_bits, low_bits, make_hint, power2
 ghost use Rattle.rounding.specs.Used.{used_hint};
 ghost use Rattle.ncc_c.specs.Answer.{coded};
 
-use answers::Answer;
-use rounding::set1::Used;
-
 #[unsafe(no_mangle)]
 pub extern "C" fn ncc_high_bits(r: i32) -> u32
     ensures { result ≡ high_bits set1 r }
@@ -37,11 +34,11 @@ pub extern "C" fn ncc_use_hint(hint: u32, r: i32, high: &mut u32) -> u64
     ensures { Is (coded (outcome (used_hint set1 hint r) high.old)) result high.new }
 {
     match rounding::set1::use_hint(hint, r) {
-        Used::High(v) => {
-            *high = v;
-            crate::answer::answer(Answer::Done)
+        Ok(bits) => {
+            *high = bits;
+            crate::answer::answer(Ok(()))
         }
-        Used::Refused(why) => crate::answer::answer(Answer::Refused(why)),
+        Err(why) => crate::answer::answer(Err(why)),
     }
 }
 
@@ -49,14 +46,12 @@ pub extern "C" fn ncc_use_hint(hint: u32, r: i32, high: &mut u32) -> u64
 pub extern "C" fn ncc_power2_high(r: i32) -> u32
     ensures { result ≡ (power2_round set1 r).high }
 {
-    let s = rounding::set1::power2round(r);
-    s.high
+    rounding::set1::power2round(r).high
 }
 
 #[unsafe(no_mangle)]
 pub extern "C" fn ncc_power2_low(r: i32) -> i32
     ensures { result ≡ (power2_round set1 r).low }
 {
-    let s = rounding::set1::power2round(r);
-    s.low
+    rounding::set1::power2round(r).low
 }

@@ -1,4 +1,4 @@
-// The samplers.
+// The samplers: a function for each name of the C interface.
 ghost use Rattle.outcome.specs.Outcome.{Is};
 ghost use Rattle.sets.specs.Set.{set1};
 ghost use Rattle.answers.specs.Result.{outcome};

@@ -16,7 +16,7 @@ pub extern "C" fn ncc_make_keys(
     public: &mut [u8],
     secret: &mut [u8],
 ) -> u64
-    ensures { Is (coded (outcome (make_keys set1 shake256 zeta.now prime.now public.entry.now secret.old) record { public = public.entry.now; secret = secret.old })) result record { public = public.exit.now; secret = secret.new } }
+    ensures { Is (coded (outcome (make_keys set1 shake256 zeta.now prime.now public.old secret.old) record { public = public.old; secret = secret.old })) result record { public = public.new; secret = secret.new } }
 {
     crate::answer::answer(set1::make_keys(zeta, prime, public, secret))
 }

@@ -7,7 +7,7 @@ ghost use Rattle.answers.specs.Refusals.{report_of};
 ghost use Rattle.answers.specs.Result.{outcome};
 ghost use Rattle.ncc_make_keys.specs.Input.{keys_from};
 
-use answers::Answer;
+use answers::{Refusal, Report};
 use sets::limits::SEED;
 use sets::set1::Set1;
 use std::io;
@@ -17,8 +17,8 @@ use std::io::{Read, Write};
 const INPUT: usize = 2 * SEED + 1;
 
 // Where the input is too short or too long, a seed has a wrong length, and key making refuses it.
-fn made(input: &[u8], public: &mut [u8], secret: &mut [u8]) -> Answer
-    ensures { Is (outcome (keys_from input.now public.entry.now secret.old) record { public = public.entry.now; secret = secret.old }) (report_of result) record { public = public.exit.now; secret = secret.new } }
+fn made(input: &[u8], public: &mut [u8], secret: &mut [u8]) -> Result<(), Refusal>
+    ensures { Is (outcome (keys_from input.now public.old secret.old) record { public = public.old; secret = secret.old }) (report_of result) record { public = public.new; secret = secret.new } }
 {
     if input.len() < SEED {
         return set1::make_keys(input, b"", public, secret);
@@ -31,7 +31,7 @@ fn main(rt: HostRuntime) -> io::Result<()> {
     let mut public = [0u8; Set1::PUBLIC_KEY];
     let mut secret = [0u8; Set1::SECRET_KEY];
     let got = io::copy(&mut rt.stdin().take(INPUT as u64), &mut &mut input[..])?;
-    let report = made(&input[..INPUT.min(got as usize)], &mut public, &mut secret).report();
+    let report = Report::from(made(&input[..INPUT.min(got as usize)], &mut public, &mut secret));
     println!(rt; "{}", report.number)?;
     if report.number == 0 {
         rt.stdout().write_all(&public)?;

@@ -7,7 +7,7 @@ ghost use Rattle.answers.specs.Refusals.{signing_report};
 ghost use Rattle.scheme.specs.Sign.{sign_outcome};
 ghost use Rattle.ncc_sign.specs.Input.{limit_in, signature_from};
 
-use answers::{Buffer, Refusal, Signing};
+use answers::{Buffer, NotSigned, Refusal, Report};
 use sets::limits;
 use sets::set1::Set1;
 use std::io;
@@ -20,11 +20,11 @@ const HEAD: usize = Set1::SECRET_KEY + 4;
 const INPUT: usize = HEAD + limits::MESSAGE_MAX + 1;
 
 // Signs the message of an input.
-fn signed(input: &[u8], signature: &mut [u8]) -> Signing
+fn signed(input: &[u8], signature: &mut [u8]) -> Result<u32, NotSigned>
     ensures { Is (sign_outcome (limit_in input.now) (signature_from input.now signature.old) signature.old) (signing_report result) signature.new }
 {
     if input.len() < HEAD {
-        return Signing::Refused(Refusal::Length(Buffer::SecretKey), 0);
+        return Err(NotSigned::from(Refusal::Length(Buffer::SecretKey)));
     }
     let limit = digits::window(input, Set1::SECRET_KEY);
     set1::sign(&input[..Set1::SECRET_KEY], &input[HEAD..], limit, signature)
@@ -34,7 +34,7 @@ fn main(rt: HostRuntime) -> io::Result<()> {
     let mut input = [0u8; INPUT];
     let mut signature = [0u8; Set1::SIGNATURE];
     let got = io::copy(&mut rt.stdin().take(INPUT as u64), &mut &mut input[..])?;
-    let report = signed(&input[..INPUT.min(got as usize)], &mut signature).report();
+    let report = Report::from(signed(&input[..INPUT.min(got as usize)], &mut signature));
     println!(rt; "{} {}", report.number, report.tries)?;
     if report.number == 0 {
         rt.stdout().write_all(&signature)?;

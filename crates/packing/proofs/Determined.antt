@@ -13,26 +13,10 @@ use Rattle.packing.proofs.parts.Part.of.Reads as part_of
 use Rattle.packing.proofs.parts.Part.of.Kinds as part_of_kinds
 use Rattle.packing.proofs.parts.Part.put.Reads as part_put
 use Rattle.packing.proofs.parts.Part.put.Kinds as part_put_kinds
-use Rattle.packing.proofs.set1.pack_t1.Reads as pack_t1
-use Rattle.packing.proofs.set1.pack_t1.Kinds as pack_t1_kinds
-use Rattle.packing.proofs.set1.unpack_t1.Reads as unpack_t1
-use Rattle.packing.proofs.set1.unpack_t1.Kinds as unpack_t1_kinds
-use Rattle.packing.proofs.set1.pack_t0.Reads as pack_t0
-use Rattle.packing.proofs.set1.pack_t0.Kinds as pack_t0_kinds
-use Rattle.packing.proofs.set1.unpack_t0.Reads as unpack_t0
-use Rattle.packing.proofs.set1.unpack_t0.Kinds as unpack_t0_kinds
-use Rattle.packing.proofs.set1.pack_s.Reads as pack_s
-use Rattle.packing.proofs.set1.pack_s.Kinds as pack_s_kinds
-use Rattle.packing.proofs.set1.unpack_s.Reads as unpack_s
-use Rattle.packing.proofs.set1.unpack_s.Kinds as unpack_s_kinds
-use Rattle.packing.proofs.set1.pack_z.Reads as pack_z
-use Rattle.packing.proofs.set1.pack_z.Kinds as pack_z_kinds
-use Rattle.packing.proofs.set1.unpack_z.Reads as unpack_z
-use Rattle.packing.proofs.set1.unpack_z.Kinds as unpack_z_kinds
-use Rattle.packing.proofs.set1.pack_w1.Reads as pack_w1
-use Rattle.packing.proofs.set1.pack_w1.Kinds as pack_w1_kinds
-use Rattle.packing.proofs.set1.unpack_w1.Reads as unpack_w1
-use Rattle.packing.proofs.set1.unpack_w1.Kinds as unpack_w1_kinds
+use Rattle.packing.proofs.set1.pack.Reads as pack
+use Rattle.packing.proofs.set1.pack.Kinds as pack_kinds
+use Rattle.packing.proofs.set1.unpack.Reads as unpack
+use Rattle.packing.proofs.set1.unpack.Kinds as unpack_kinds
 use Rattle.packing.proofs.set1.pack_hints.Reads as pack_hints
 use Rattle.packing.proofs.set1.pack_hints.Kinds as pack_hints_kinds
 use Rattle.packing.proofs.set1.unpack_hints.Reads as unpack_hints
@@ -53,36 +37,12 @@ part_of_one κs a x y s t p q = p ∙ sym q
 pub part_put_one : One 2 part_put_kinds.ps part_put_kinds.r part_put.Post (λ κs s. s.1.1.0.now)
 part_put_one κs a x y s t p q = (refl, p ∙ sym q)
 
--- ---- the calls of set 1
-pub pack_t1_one : One 2 pack_t1_kinds.ps pack_t1_kinds.r pack_t1.Post (λ κs s. s.1.0.now)
-pack_t1_one κs a x y s t p q = determined_report _ x y s.1.0.now t.1.0.now p q
+-- ---- the calls of set 1; those for an element take every field
+pub pack_one : One 2 pack_kinds.ps pack_kinds.r pack.Post (λ κs s. s.1.1.0.now)
+pack_one κs a x y s t p q = determined_report _ x y s.1.1.0.now t.1.1.0.now p q
 
-pub unpack_t1_one : One 2 unpack_t1_kinds.ps unpack_t1_kinds.r unpack_t1.Post (λ κs s. s.1.0.now)
-unpack_t1_one κs a x y s t p q = determined_report _ x y s.1.0.now t.1.0.now p q
-
-pub pack_t0_one : One 2 pack_t0_kinds.ps pack_t0_kinds.r pack_t0.Post (λ κs s. s.1.0.now)
-pack_t0_one κs a x y s t p q = determined_report _ x y s.1.0.now t.1.0.now p q
-
-pub unpack_t0_one : One 2 unpack_t0_kinds.ps unpack_t0_kinds.r unpack_t0.Post (λ κs s. s.1.0.now)
-unpack_t0_one κs a x y s t p q = determined_report _ x y s.1.0.now t.1.0.now p q
-
-pub pack_s_one : One 2 pack_s_kinds.ps pack_s_kinds.r pack_s.Post (λ κs s. s.1.0.now)
-pack_s_one κs a x y s t p q = determined_report _ x y s.1.0.now t.1.0.now p q
-
-pub unpack_s_one : One 2 unpack_s_kinds.ps unpack_s_kinds.r unpack_s.Post (λ κs s. s.1.0.now)
-unpack_s_one κs a x y s t p q = determined_report _ x y s.1.0.now t.1.0.now p q
-
-pub pack_z_one : One 2 pack_z_kinds.ps pack_z_kinds.r pack_z.Post (λ κs s. s.1.0.now)
-pack_z_one κs a x y s t p q = determined_report _ x y s.1.0.now t.1.0.now p q
-
-pub unpack_z_one : One 2 unpack_z_kinds.ps unpack_z_kinds.r unpack_z.Post (λ κs s. s.1.0.now)
-unpack_z_one κs a x y s t p q = determined_report _ x y s.1.0.now t.1.0.now p q
-
-pub pack_w1_one : One 2 pack_w1_kinds.ps pack_w1_kinds.r pack_w1.Post (λ κs s. s.1.0.now)
-pack_w1_one κs a x y s t p q = determined_report _ x y s.1.0.now t.1.0.now p q
-
-pub unpack_w1_one : One 2 unpack_w1_kinds.ps unpack_w1_kinds.r unpack_w1.Post (λ κs s. s.1.0.now)
-unpack_w1_one κs a x y s t p q = determined_report _ x y s.1.0.now t.1.0.now p q
+pub unpack_one : One 2 unpack_kinds.ps unpack_kinds.r unpack.Post (λ κs s. s.1.1.0.now)
+unpack_one κs a x y s t p q = determined_report _ x y s.1.1.0.now t.1.1.0.now p q
 
 pub pack_hints_one : One 2 pack_hints_kinds.ps pack_hints_kinds.r pack_hints.Post (λ κs s. s.1.0.now)
 pack_hints_one κs a x y s t p q = determined_report _ x y s.1.0.now t.1.0.now p q

@@ -6,9 +6,8 @@ use lib.ListN.{length, replicate}
 use lib.IntN.{ℤ}
 use Rattle.outcome.specs.Outcome.{Is}
 use Rattle.layouts.specs.declared.layout.Layout.{Layout}
-use Rattle.layouts.specs.declared.unpack.Unpacked.{Unpacked}
 use Rattle.layouts.specs.Layouts.{code, holds}
-use Rattle.layouts.specs.Inner.{Readable, taken_to, unpacked_to}
+use Rattle.layouts.specs.Inner.{Unpacked, Readable, taken_to, unpacked_to}
 use Rattle.layouts.proofs.Packs.{Coding, Decoding, taken_as, unpacked_as}
 
 abbrev zeros : List ℕ

@@ -1,18 +1,17 @@
 -- The parts of keys and signatures: how long they are, where they stand, and that parts written one after the other are the parts joined.
 use mathlib.Core.Path.{◌≡◌, refl, sym, ap, ◌∙◌}
 use mathlib.Core.List.{List, [], ◌∷◌, ◌++◌, append_assoc}
-use Prim.Native.Nat.{ℕ, zero, suc, ◌+◌, ◌-◌, ◌*◌, ◌≤◌, ◌<◌}
+use Prim.Native.Nat.{ℕ, zero, suc, ◌+◌, ◌-◌, ◌≤◌, ◌<◌}
 use native.Mathlib.Omega.{arith}
 use lib.Dec.{lit<}
 use lib.ListN.{length, get_or, take, drop, replicate, length-append, length-drop}
 use lib.Seq.{length-take-le, take_at, drop_at, drop-drop}
+use Rattle.std.specs.Prelude.{sum}
+use Rattle.std.proofs.lemmas.List.{take-append-le, get_or_append_left}
+use Rattle.std.proofs.lemmas.List.Sums.{sum_by-cons}
 use borrow.Rule.Slice.PartMut.{put_mid, Post-is}
 use Rattle.sets.specs.Set.{Set}
 use Rattle.sets.specs.Good.{Good}
-use Rattle.digits.proofs.Numbers.{Below}
-use Rattle.digits.proofs.Codes.{below_at}
-use Rattle.buffers.specs.Buffers.{overlay}
-use Rattle.buffers.proofs.Copies.{overlay_all}
 use Rattle.layouts.specs.declared.layout.Layout.{Layout}
 use Rattle.packing.specs.declared.parts.Whole.{Whole}
 use Rattle.packing.specs.declared.parts.Whole.TheVariants as whole
@@ -25,140 +24,60 @@ use Rattle.packing.specs.Inner.{lengths, size_in, start_in, put}
 use Rattle.layouts.proofs.Room.{bits_room, t1_readable, t0_readable, s_readable, z_readable, hint_readable}
 
 -- ---- lengths
--- no part is long
-module _ (p : Set) (G : Good p) where
-  few_bytes : (L : Layout) → Readable L p.q → size L p.n < 10241
-  few_bytes L R = let l = bits_room L.bits p.n R.width G.n_room in omega arith
-
-  lengths_below : (w : Whole) → Below 10241 (lengths p w)
-  lengths_below whole.PublicKey = (lit< tt, (few_bytes (t1_layout p) (t1_readable p G), (lit< tt, (lit< tt, (lit< tt, (lit< tt, tt))))))
-  lengths_below whole.SecretKey =
-      let s = few_bytes (s_layout p) (s_readable p G) in
-      (lit< tt, (lit< tt, (lit< tt, (s, (s, (few_bytes (t0_layout p) (t0_readable p G), tt))))))
-  lengths_below whole.Signature =
-      (lit< tt, (few_bytes (z_layout p) (z_readable p G), (few_bytes hint_layout (hint_readable p G), (lit< tt, (lit< tt, (lit< tt, tt))))))
-  lengths_below whole.Seeds = (lit< tt, (lit< tt, (lit< tt, (lit< tt, (lit< tt, (lit< tt, tt))))))
-
-  pub few_lengths : (w : Whole) (k : ℕ) → get_or (lengths p w) k 0 ≤ 10240
-  few_lengths w k = let l = below_at 10241 (lengths p w) (lit< tt) (lengths_below w) k in omega arith
-
--- the sum of one length more
-pub total_next : (ms : List ℕ) (k : ℕ) → k < length ms → total (take (suc k) ms) ≡ total (take k ms) + get_or ms k 0
+-- the definition's total is a sum
+total_sum : (ms : List ℕ) → total ms ≡ sum ms
 unfolding total
-total_next [] k l = absurd (omega arith)
-total_next (m ∷ ms) zero l = omega arith
-total_next (m ∷ ms) (suc k) l = omega (arith, total_next ms k (omega arith))
+total_sum [] = refl
+total_sum (m ∷ ms) = omega (arith, total_sum ms, sum_by-cons (λ (x : ℕ). x) m ms)
 
--- the zeros past the last length change nothing
-total_zeros : (n i : ℕ) → total (take i (replicate n 0)) ≡ 0
-unfolding total
-total_zeros zero zero = refl
-total_zeros zero (suc i) = refl
-total_zeros (suc n) zero = refl
-total_zeros (suc n) (suc i) = omega (arith, total_zeros n i)
+-- no part is long, so that the lengths' sum is small
+pub few_bytes : (p : Set) → Good p → (w : Whole) → sum (lengths p w) ≤ 61440
+few_bytes p G = by
+  where
+    few : (L : Layout) → Readable L p.q → size L p.n ≤ 10240
+    few L R = let l = bits_room L.bits p.n R.width G.n_room in omega arith
 
-total_padded : (ms : List ℕ) (n i : ℕ) → total (take i (ms ++ replicate n 0)) ≡ total (take i ms)
-unfolding total
-total_padded [] n zero = total_zeros n zero
-total_padded [] n (suc i) = total_zeros n (suc i)
-total_padded (m ∷ ms) n zero = refl
-total_padded (m ∷ ms) n (suc i) = ap (λ (x : ℕ). m + x) (total_padded ms n i)
+    by : (w : Whole) → sum (lengths p w) ≤ 61440
+    by whole.PublicKey = let t1 = few (t1_layout p) (t1_readable p G) in omega arith
+    by whole.SecretKey =
+        let s = few (s_layout p) (s_readable p G) in
+        let t0 = few (t0_layout p) (t0_readable p G) in
+        omega arith
+    by whole.Signature =
+        let z = few (z_layout p) (z_readable p G) in
+        let h = few hint_layout (hint_readable p G) in
+        omega arith
+    by whole.Seeds = omega arith
 
-at_padded : (ms : List ℕ) (n i : ℕ) → get_or (ms ++ replicate n 0) i 0 ≡ get_or ms i 0
-at_padded [] zero i = refl
-at_padded [] (suc n) zero = refl
-at_padded [] (suc n) (suc i) = at_padded [] n i
-at_padded (m ∷ ms) n zero = refl
-at_padded (m ∷ ms) n (suc i) = at_padded ms n i
-
+-- past the last part the lengths are 0
 padded : (p : Set) (w : Whole) → (n : ℕ) × (lengths p w ≡ parts_in p w ++ replicate n 0)
 padded p whole.PublicKey = (4, refl)
 padded p whole.SecretKey = (0, refl)
 padded p whole.Signature = (3, refl)
 padded p whole.Seeds = (3, refl)
 
-module _ (p : Set) (w : Whole) where
-  pub lengths_total : (i : ℕ) → total (take i (lengths p w)) ≡ total (take i (parts_in p w))
-  lengths_total i = let e = padded p w in ap (λ (ms : List ℕ). total (take i ms)) e.1 ∙ total_padded (parts_in p w) e.0 i
-
-  pub lengths_at : (i : ℕ) → get_or (lengths p w) i 0 ≡ get_or (parts_in p w) i 0
-  lengths_at i = let e = padded p w in ap (λ (ms : List ℕ). get_or ms i 0) e.1 ∙ at_padded (parts_in p w) e.0 i
-
-  pub lengths_six : length (lengths p w) ≡ 6
-  lengths_six = six w
-    where
-      six : (w : Whole) → length (lengths p w) ≡ 6
-      six whole.PublicKey = refl
-      six whole.SecretKey = refl
-      six whole.Signature = refl
-      six whole.Seeds = refl
-
-  pub parts_six : total (take 6 (parts_in p w)) ≡ total (parts_in p w)
-  parts_six = six w
-    where
-      six : (w : Whole) → total (take 6 (parts_in p w)) ≡ total (parts_in p w)
-      six whole.PublicKey = refl
-      six whole.SecretKey = refl
-      six whole.Signature = refl
-      six whole.Seeds = refl
-
-rank_few : (x : Part) → rank x < 6
-rank_few part.PublicZeta = lit< tt
-rank_few part.T1 = lit< tt
-rank_few part.SecretZeta = lit< tt
-rank_few part.Ph = lit< tt
-rank_few part.K = lit< tt
-rank_few part.S1 = lit< tt
-rank_few part.S2 = lit< tt
-rank_few part.T0 = lit< tt
-rank_few part.Commitment = lit< tt
-rank_few part.Z = lit< tt
-rank_few part.Hints = lit< tt
-rank_few part.Xi1 = lit< tt
-rank_few part.Xi2 = lit< tt
-rank_few part.NewK = lit< tt
-
--- what summing the lengths asks, and that the sum is small
-module _ (p : Set) (G : Good p) (w : Whole) (ms : List ℕ) (e : ms ≡ lengths p w) where
-  pub can_sum : (i : ℕ) → i ≤ 6 → (i ≤ length ms) × (length ms ≡ 6) × ((k : ℕ) → get_or ms k 0 ≤ 10240)
-  can_sum i l = rw e (omega (arith, lengths_six p w), lengths_six p w, few_lengths p G w)
-
-  pub whole_sum : (n : ℕ) → n ≡ total (take 6 ms) → n ≡ total (parts_in p w)
-  whole_sum n s = s ∙ rw e (lengths_total p w 6 ∙ parts_six p w)
-
-total_few : (b : ℕ) (ms : List ℕ) (i : ℕ) → ((k : ℕ) → get_or ms k 0 ≤ b) → total (take i ms) ≤ i * b
+pub whole_sum : (p : Set) (w : Whole) → sum (lengths p w) ≡ total (parts_in p w)
 unfolding total
-total_few b [] zero h = omega arith
-total_few b [] (suc i) h = omega arith
-total_few b (m ∷ ms) zero h = omega arith
-total_few b (m ∷ ms) (suc i) h = omega (arith, h 0, total_few b ms i (λ k. h (suc k)))
+whole_sum p whole.PublicKey = omega arith
+whole_sum p whole.SecretKey = omega arith
+whole_sum p whole.Signature = omega arith
+whole_sum p whole.Seeds = omega arith
 
--- where a part starts and ends, by the lengths of its whole
-pub record Spans (p : Set) (x : Part) (ms : List ℕ) (i start : ℕ) : Type 0 where
-  pub below : i < 6
-  pub few : start + get_or ms i 0 ≤ 61440
-  pub starts : start ≡ start_in p x
-  pub ends : start + get_or ms i 0 ≡ start_in p x + size_in p x
-
-pub rank_below : (x : Part) (i : ℕ) → i ≡ rank x → i < 6
-rank_below x i r = rw r (rank_few x)
-
-pub spans : (p : Set) → Good p → (x : Part) (w : Whole) (ms : List ℕ) (i start : ℕ) → w ≡ whole_of x → ms ≡ lengths p w → i ≡ rank x
-    → start ≡ total (take i ms) → Spans p x ms i start
-spans p G x w ms i start f e r s =
-    let g = can_sum p G w ms e i (omega (arith, rank_below x i r)) in
-    record {
-      below = rank_below x i r;
-      few = omega (arith, total_few 10240 ms i g.2, g.2 i, rank_below x i r);
-      starts = first;
-      ends = λ j. first j + size j;
-    }
-  where
-    first : start ≡ start_in p x
-    first = s ∙ rw (e, f, r) (lengths_total p (whole_of x) (rank x))
-
-    size : get_or ms i 0 ≡ size_in p x
-    size = rw (e, f, r) (lengths_at p (whole_of x) (rank x))
+rank_within : (p : Set) (x : Part) → rank x < length (parts_of p x)
+rank_within p part.PublicZeta = lit< tt
+rank_within p part.T1 = lit< tt
+rank_within p part.SecretZeta = lit< tt
+rank_within p part.Ph = lit< tt
+rank_within p part.K = lit< tt
+rank_within p part.S1 = lit< tt
+rank_within p part.S2 = lit< tt
+rank_within p part.T0 = lit< tt
+rank_within p part.Commitment = lit< tt
+rank_within p part.Z = lit< tt
+rank_within p part.Hints = lit< tt
+rank_within p part.Xi1 = lit< tt
+rank_within p part.Xi2 = lit< tt
+rank_within p part.NewK = lit< tt
 
 -- a part ends within its whole
 within : (ms : List ℕ) (i : ℕ) → total (take i ms) + get_or ms i 0 ≤ total ms
@@ -170,6 +89,21 @@ within (m ∷ ms) (suc i) = omega (arith, within ms i)
 
 pub part_within : (p : Set) (x : Part) → start_in p x + size_in p x ≤ total (parts_of p x)
 part_within p x = within (parts_of p x) (rank x)
+
+-- where a part starts and how long it is, by the lengths of its whole
+module _ (p : Set) (x : Part) where
+  pub start_is : sum (take (rank x) (lengths p (whole_of x))) ≡ start_in p x
+  start_is =
+      let e = padded p (whole_of x) in
+      rw (e.1, take-append-le (rank x) (parts_of p x) (replicate e.0 0) (omega (arith, rank_within p x))) (sym (total_sum (take (rank x) (parts_of p x))))
+
+  pub size_is : get_or (lengths p (whole_of x)) (rank x) 0 ≡ size_in p x
+  size_is =
+      let e = padded p (whole_of x) in
+      rw (e.1, get_or_append_left (parts_of p x) (replicate e.0 0) 0 (rank x) (rank_within p x))
+
+  pub end_few : Good p → start_in p x + size_in p x ≤ 61440
+  end_few G = omega (arith, part_within p x, sym (whole_sum p (whole_of x)), few_bytes p G (whole_of x))
 
 -- a part lies after the parts before it
 part_at : (ms : List ℕ) (i : ℕ) (bs : List ℕ) → part ms i bs ≡ take (get_or ms i 0) (drop (total (take i ms)) bs)
@@ -201,12 +135,6 @@ part_put p x start end new want old s e l n =
   where
     past : drop (end - start) (drop start old) ≡ drop (start_in p x + length want) old
     past = Post-is start end old (omega arith) ∙ ap (λ (k : ℕ). drop k old) {x = end} {y = start_in p x + length want} (omega arith)
-
--- bytes that were copied over a part of their length
-pub part_copied : (p : Set) (x : Part) (start end : ℕ) (new bs old : List ℕ) → start ≡ start_in p x → end ≡ start_in p x + size_in p x
-    → length bs ≡ size_in p x → length old ≡ total (parts_of p x) → new ≡ overlay bs (take (end - start) (drop start old)) → new ≡ bs
-part_copied p x start end new bs old s e l lo n =
-    n ∙ overlay_all bs (take (end - start) (drop start old)) (ap length (part_lent p x start end old s e) ∙ part_long p x old lo ∙ sym l)
 
 put_front : (front rest new : List ℕ) → put (length front) new (front ++ rest) ≡ (front ++ new) ++ drop (length new) rest
 put_front front rest new =

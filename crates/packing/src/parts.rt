@@ -9,6 +9,7 @@ use answers::Field;
 use layouts::layout::Layout;
 use sets::limits;
 use sets::numbers::Numbers;
+use std::ops::Range;
 
 #[derive(Clone, Copy)]
 pub enum Whole {
@@ -16,19 +17,6 @@ pub enum Whole {
     SecretKey,
     Signature,
     Seeds,
-}
-
-// Where a part starts, and where it ends.
-#[derive(Clone, Copy)]
-pub struct Span {
-    pub start: usize,
-    pub end: usize,
-}
-
-#[derive(Clone, Copy)]
-struct Seat {
-    whole: Whole,
-    rank: usize,
 }
 
 // Those of a public key, of a secret key, of a signature, and of H(ζ', 96), in the order in which they stand.
@@ -66,7 +54,7 @@ fn hint_size(p: Numbers) -> usize
 }
 
 impl Whole {
-    // The lengths of its parts, in order, with 0 past the last.
+    // The lengths of its parts, in order, with 0 past the last: with no heap they share one array, and a slice of it would need one to lie in.
     fn lengths(self, p: Numbers) -> [usize; 6]
         requires { Good p }
         ensures { result ≡ lengths p self }
@@ -91,104 +79,42 @@ impl Whole {
         requires { Good p }
         ensures { result ≡ total (parts_in p self) }
     {
-        let lengths = self.lengths(p);
-        sum(&lengths, 6)
+        self.lengths(p).iter().sum()
     }
-}
-
-// The sum of the first i lengths.
-fn sum(lengths: &[usize], i: usize) -> usize
-    requires { (i ≤ length lengths.now) × (length lengths.now ≡ 6) × ((k : ℕ) → get_or lengths.now k 0 ≤ 10240) }
-    ensures { result ≡ total (take i lengths.now) }
-{
-    let mut at: usize = 0;
-    let mut k: usize = 0;
-    while k < i {
-        at = at + lengths[k];
-        k += 1;
-    }
-    at
 }
 
 impl Part {
     // The whole that it belongs to, and which of its parts it is.
-    fn seat(self) -> Seat
-        ensures { (result.whole ≡ whole_of self) × (result.rank ≡ rank self) }
+    fn seat(self) -> (Whole, usize)
+        ensures { result ≡ (whole_of self, rank self) }
     {
         match self {
-            Part::PublicZeta => Seat {
-                whole: Whole::PublicKey,
-                rank: 0,
-            },
-            Part::T1 => Seat {
-                whole: Whole::PublicKey,
-                rank: 1,
-            },
-            Part::SecretZeta => Seat {
-                whole: Whole::SecretKey,
-                rank: 0,
-            },
-            Part::Ph => Seat {
-                whole: Whole::SecretKey,
-                rank: 1,
-            },
-            Part::K => Seat {
-                whole: Whole::SecretKey,
-                rank: 2,
-            },
-            Part::S1 => Seat {
-                whole: Whole::SecretKey,
-                rank: 3,
-            },
-            Part::S2 => Seat {
-                whole: Whole::SecretKey,
-                rank: 4,
-            },
-            Part::T0 => Seat {
-                whole: Whole::SecretKey,
-                rank: 5,
-            },
-            Part::Commitment => Seat {
-                whole: Whole::Signature,
-                rank: 0,
-            },
-            Part::Z => Seat {
-                whole: Whole::Signature,
-                rank: 1,
-            },
-            Part::Hints => Seat {
-                whole: Whole::Signature,
-                rank: 2,
-            },
-            Part::Xi1 => Seat {
-                whole: Whole::Seeds,
-                rank: 0,
-            },
-            Part::Xi2 => Seat {
-                whole: Whole::Seeds,
-                rank: 1,
-            },
-            Part::NewK => Seat {
-                whole: Whole::Seeds,
-                rank: 2,
-            },
+            Part::PublicZeta => (Whole::PublicKey, 0),
+            Part::T1 => (Whole::PublicKey, 1),
+            Part::SecretZeta => (Whole::SecretKey, 0),
+            Part::Ph => (Whole::SecretKey, 1),
+            Part::K => (Whole::SecretKey, 2),
+            Part::S1 => (Whole::SecretKey, 3),
+            Part::S2 => (Whole::SecretKey, 4),
+            Part::T0 => (Whole::SecretKey, 5),
+            Part::Commitment => (Whole::Signature, 0),
+            Part::Z => (Whole::Signature, 1),
+            Part::Hints => (Whole::Signature, 2),
+            Part::Xi1 => (Whole::Seeds, 0),
+            Part::Xi2 => (Whole::Seeds, 1),
+            Part::NewK => (Whole::Seeds, 2),
         }
     }
 
     // Where it stands: after the parts before it.
-    pub fn span(self, p: Numbers) -> Span
+    pub fn span(self, p: Numbers) -> Range<usize>
         requires { Good p }
         ensures { (result.start ≡ start_in p self) × (result.end ≡ start_in p self + size_in p self) }
     {
-        let seat = self.seat();
-        let whole = seat.whole;
-        let i = seat.rank;
+        let (whole, rank) = self.seat();
         let lengths = whole.lengths(p);
-        let start = sum(&lengths, i);
-        Span {
-            start: start,
-            end: start + lengths[i],
-        }
+        let start = lengths[..rank].iter().sum();
+        start..start + lengths[rank]
     }
 
     // Its bytes in the whole.
@@ -196,10 +122,7 @@ impl Part {
         requires { Good p × (length whole.now ≡ total (parts_of p self)) }
         ensures { result.now ≡ bytes_of p self whole.now }
     {
-        let span = self.span(p);
-        let start = span.start;
-        let end = span.end;
-        &whole[start..end]
+        &whole[self.span(p)]
     }
 
     // Bytes written there.
@@ -207,9 +130,6 @@ impl Part {
         requires { Good p × (length whole.old ≡ total (parts_of p self)) × (length bytes.now ≡ size_in p self) }
         ensures { whole.new ≡ put (start_in p self) bytes.now whole.old }
     {
-        let span = self.span(p);
-        let start = span.start;
-        let end = span.end;
-        buffers::copy_bytes(&mut whole[start..end], bytes);
+        whole[self.span(p)].copy_from_slice(bytes);
     }
 }

@@ -1,17 +1,15 @@
 -- Laws of the centred remainder: it is congruent, it is its own, a small number is its own.
 use mathlib.Core.Path.{◌≡◌, sym, ap, ◌∙◌}
-use mathlib.Core.Bool.{cond}
 use mathlib.Core.Logic.{⊎_elim}
 use Prim.Native.Nat.{ℕ, suc, ◌-◌, ◌*◌, ◌/◌, ◌%◌, ◌≤◌, ◌<◌, min}
 use native.Mathlib.Nat.{mod-eq_of_lt, mod_self}
 use native.Mathlib.Omega.{arith}
 use native.Mathlib.Decide.{ℕ_discrete}
 use borrow.Author.Tests.{le-leb, lt-leb}
-use lib.Dec.{leb}
 use lib.IntN.{ℤ, pos, negsuc, nat_abs, neg_ℤ, sub_ℕ}
 use Rattle.residues.specs.Remainder.{residue, signed, centred, magnitude}
 use Rattle.residues.proofs.Order.{below_or}
-use Rattle.residues.proofs.Differences.{sub_ge, sub_lt, abs_sub}
+use Rattle.residues.proofs.Differences.{sub_lt, abs_sub}
 use Rattle.residues.proofs.Remainders.{residue_lt, residue_again, residue_neg, residue_negated}
 
 pub signed_low : (q x : ℕ) → x ≤ q / 2 → signed q x ≡ pos x
@@ -19,14 +17,6 @@ signed_low q x l = rw (le-leb x (q / 2) l)
 
 pub signed_high : (q x : ℕ) → q / 2 < x → signed q x ≡ sub_ℕ x q
 signed_high q x l = rw (lt-leb x (q / 2) l)
-
--- the representative as a difference, of what is taken off above the half
-pub signed_by : (q x : ℕ) → sub_ℕ x (cond (leb x (q / 2)) 0 q) ≡ signed q x
-signed_by q x =
-    ⊎_elim (λ h. rw (lt-leb x (q / 2) h)) (λ h. rw (le-leb x (q / 2) h) (sub_ge {a = x} {b = 0} (omega arith) ∙ ap pos (omega arith))) (below_or (q / 2) x)
-
-pub taken_most : (q x : ℕ) → cond (leb x (q / 2)) 0 q ≤ q
-taken_most q x = ⊎_elim (λ h. rw (lt-leb x (q / 2) h) (omega arith)) (λ h. rw (le-leb x (q / 2) h) (omega arith)) (below_or (q / 2) x)
 
 module _ (q : ℕ) (hq : 0 < q) where
   -- the representative is congruent

@@ -10,9 +10,9 @@ pub fn modulo(q: u32, x: u64) -> u32
     ensures { result ≡ x % q }
 {
     if q == Set1::Q {
-        (x % (Set1::Q as u64)) as u32
+        (x % u64::from(Set1::Q)) as u32
     } else {
-        (x % (q as u64)) as u32
+        (x % u64::from(q)) as u32
     }
 }
 

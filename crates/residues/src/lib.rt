@@ -12,11 +12,11 @@ pub fn reduce(q: u32, r: i32) -> u32
     requires { 0 < q }
     ensures { result ≡ residue q r }
 {
+    let size = r.unsigned_abs();
     if r < 0 {
-        let k = (-1 - r) as u32;
-        q - 1 - divide::modulo(q, k as u64)
+        q - 1 - divide::modulo(q, u64::from(size - 1))
     } else {
-        divide::modulo(q, (r as u32) as u64)
+        divide::modulo(q, u64::from(size))
     }
 }
 
@@ -25,7 +25,7 @@ pub fn difference(a: u32, b: u32) -> i32
     requires { (a < 2 ^ 31) × (b < 2 ^ 31) }
     ensures { result ≡ sub_ℕ a b }
 {
-    (a as i32) - (b as i32)
+    a.cast_signed() - b.cast_signed()
 }
 
 // What is taken from a remainder to centre it.
@@ -48,5 +48,5 @@ pub fn magnitude(q: u32, x: u32) -> u32
     requires { x < q }
     ensures { result ≡ nat_abs (signed q x) }
 {
-    if x <= q / 2 { x } else { q - x }
+    x.min(q - x)
 }

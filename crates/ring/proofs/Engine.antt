@@ -9,6 +9,7 @@ use native.Mathlib.Numerals.{add-one}
 use lib.Dec.{leb}
 use lib.IntN.{pos, ◌*ℤ◌}
 use lib.ListN.{length, get_or, replicate, length-replicate, get_or-eq_default}
+use Rattle.std.proofs.lemmas.Grind.{common_steps}
 use Rattle.sets.specs.Set.{Set}
 use Rattle.sets.specs.declared.numbers.Ring.{Ring}
 use Rattle.sets.specs.Good.{Trinomial}
@@ -21,8 +22,15 @@ use Rattle.ring.specs.Inner.{whole, multiplied, Residues, total, meet, meet_padd
 use Rattle.ring.proofs.Sums.{cong}
 use Rattle.ring.proofs.Lists.{is_tab}
 use Rattle.ring.proofs.Reindex.{by_exponent, moved, pos_total, pos_meet}
-use Rattle.ring.proofs.Padding.{at_zeros}
 use Rattle.ring.proofs.Rowing.{total_cong, meet_padded_lem}
+
+pub at_zeros : (n k : ℕ) → get_or {A = ℕ} (replicate n 0) k 0 ≡ 0
+at_zeros n k = grind (arith, common_steps)
+
+-- the exponents below e are folded in
+pub record Reached (p : Set) (sums : List ℕ) (e : ℕ) (out : List ℕ) : Type 0 where
+  pub long : length out ≡ p.n
+  pub each : (k : ℕ) → k < p.n → get_or out k 0 ≡ residue p.q (sum e (λ x. pos (get_or sums x 0) *ℤ fold (p.n / 2) x k))
 
 module _ (p : Set) (T : Trinomial p) where
   pub q_some : 0 < p.q
@@ -31,12 +39,7 @@ module _ (p : Set) (T : Trinomial p) where
   abbrev h : ℕ
   h = p.n / 2
 
-  -- the exponents below e are folded in
-  pub record Reached (sums : List ℕ) (e : ℕ) (out : List ℕ) : Type 0 where
-    pub long : length out ≡ p.n
-    pub each : (k : ℕ) → k < p.n → get_or out k 0 ≡ residue p.q (sum e (λ x. pos (get_or sums x 0) *ℤ fold (p.n / 2) x k))
-
-  pub reached_none : (sums out : List ℕ) → out ≡ replicate p.n 0 → Reached sums 0 out
+  pub reached_none : (sums out : List ℕ) → out ≡ replicate p.n 0 → Reached p sums 0 out
   unfolding sum
   reached_none sums out f = record {
     long = ap length f ∙ length-replicate {A = ℕ} p.n 0;
@@ -50,7 +53,7 @@ module _ (p : Set) (T : Trinomial p) where
           zero_mod_q = native.Mathlib.Nat.zero-mod p.q
 
   -- c X^e can be added
-  pub can_fold : (sums out : List ℕ) (e : ℕ) → Reached sums e out → e < 2 * p.n - 1 → Foldable (p.n / 2) p.q out e (get_or sums e 0 % p.q)
+  pub can_fold : (sums out : List ℕ) (e : ℕ) → Reached p sums e out → e < 2 * p.n - 1 → Foldable (p.n / 2) p.q out e (get_or sums e 0 % p.q)
   can_fold sums out e R l = record {
     some = omega (arith, T.even, T.good.n_some);
     most = omega (arith, T.even, T.good.n_room);
@@ -61,7 +64,7 @@ module _ (p : Set) (T : Trinomial p) where
     small = mod-lt (get_or sums e 0) q_some;
   }
 
-  pub reached_more : (sums out more : List ℕ) (e : ℕ) → Reached sums e out → Folded (p.n / 2) p.q out e (get_or sums e 0 % p.q) more → Reached sums (e + 1) more
+  pub reached_more : (sums out more : List ℕ) (e : ℕ) → Reached p sums e out → Folded (p.n / 2) p.q out e (get_or sums e 0 % p.q) more → Reached p sums (e + 1) more
   unfolding sum
   reached_more sums out more e R F = record {
     long = F.long ∙ sym T.even;
@@ -73,12 +76,6 @@ module _ (p : Set) (T : Trinomial p) where
         (residue_times p.q q_some (pos (get_or sums e 0 % p.q)) (pos (get_or sums e 0)) (fold h e k) (fold h e k)
         (residue_pos p.q q_some (get_or sums e 0 % p.q) ∙ mod-mod (get_or sums e 0) p.q ∙ sym (residue_pos p.q q_some (get_or sums e 0))) refl) ∙
         ap (λ (n : ℕ). residue p.q (sum n (λ x. pos (get_or sums x 0) *ℤ fold h x k))) (sym (add-one e));
-  }
-
-  pub reached_all : (sums out : List ℕ) (e : ℕ) → Reached sums e out → e ≡ 2 * p.n - 1 → FoldedAll p sums out
-  reached_all sums out e R z = record {
-    long = R.long;
-    each = λ k l. R.each k l ∙ ap (λ (n : ℕ). residue p.q (sum n (λ x. pos (get_or sums x 0) *ℤ fold h x k))) z;
   }
 
   module _ (a b : List ℕ) (A : Residues p a) (B : Residues p b) where

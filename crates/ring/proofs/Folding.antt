@@ -53,9 +53,6 @@ module _ (h q : ℕ) (pq : 0 < q) (l : List ℕ) (e c : ℕ) (B : Foldable h q l
   }
 
 -- the ranges, by the quotient
-pub range_is : (e h k : ℕ) → 0 < h → k * h ≤ e → e < (k + 1) * h → k ≡ e / h
-range_is e h k p l m = let a = (le-div_iff_mul-le {k = h} p).1 l in let b = (div-lt_iff_lt-mul {k = h} p).1 m in omega arith
-
 pub div_low : (e h : ℕ) → 0 < h → e / h ≤ 1 → e < 2 * h
 div_low e h p l = (div-lt_iff_lt-mul {k = h} p).0 (omega arith)
 

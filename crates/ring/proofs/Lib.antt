@@ -11,9 +11,7 @@ pub mod Lists
 pub mod Modulo
 pub mod Reindex
 pub mod Verify
-pub mod Filling
 pub mod Adding
-pub mod Padding
 pub mod Rowing
 pub mod Folding
 pub mod Engine

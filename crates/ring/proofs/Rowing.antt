@@ -1,7 +1,7 @@
 -- The rows of a product, added pass by pass from the front: n rows are in the sums.
 use mathlib.Core.Path.{◌≡◌, refl, sym, ap, ◌∙◌}
-use mathlib.Core.Bool.{cond}
-use mathlib.Core.List.{List}
+use mathlib.Core.Bool.{Bool, true, false, cond}
+use mathlib.Core.List.{List, [], ◌∷◌}
 use mathlib.Core.Logic.{⊎_elim}
 use Prim.Native.Nat.{ℕ, zero, suc, ◌+◌, ◌-◌, ◌*◌, ◌^◌, ◌≤◌, ◌<◌}
 use native.Mathlib.Nat.{mul-zero, zero-mul}
@@ -12,7 +12,8 @@ use borrow.Author.Tests.{le-leb, lt-leb}
 use lib.Dec.{leb}
 use lib.ListN.{length, get_or, get_or-eq_default}
 use Rattle.residues.proofs.Order.{below_or}
-use Rattle.ring.specs.Inner.{total, meet, meet_padded, one, four, brought, Padded, Room, Summed, Passed, Unsummed, Unfolded}
+use Rattle.ring.specs.declared.Row.{Row}
+use Rattle.ring.specs.Inner.{total, meet, meet_padded, row_of, one, pass, Near, brought, Padded, Room, Summed, Passed, Unsummed, Unfolded}
 use Rattle.ring.proofs.Adding.{small}
 
 -- ---- sums of natural numbers
@@ -52,17 +53,14 @@ unfolding total
 total_cong zero f g h = refl
 total_cong (suc n) f g h = λ j. total_cong n f g (λ i l. h i (omega arith)) j + h n (omega arith) j
 
--- ---- zeros that are passed over
-module _ (a : List ℕ) (from top : ℕ) where
-  pub passed_none : from ≤ top → Passed a from top from
-  passed_none l = record { start = omega arith; most = l; zeros = λ k h g. absurd (omega arith) }
+-- a sum of four is brought as each of them is
+spread : (b : Bool) (x y z u : ℕ) → cond b (0 + x + y + z + u) 0 ≡ cond b x 0 + cond b y 0 + cond b z 0 + cond b u 0
+spread true x y z u = omega arith
+spread false x y z u = refl
 
-  pub passed_more : (at : ℕ) → Passed a from top at → at < top → get_or a at 0 ≡ 0 → Passed a from top (at + 1)
-  passed_more at P l z = record {
-    start = omega (arith, P.start);
-    most = omega arith;
-    zeros = λ k h g. ⊎_elim (λ m. P.zeros k h m) (λ m. ap (λ (x : ℕ). get_or a x 0) {x = k} {y = at} (omega arith) ∙ z) (below_or k at);
-  }
+alone : (b : Bool) (x : ℕ) → cond b (0 + x) 0 ≡ cond b x 0
+alone true x = omega arith
+alone false x = refl
 
 -- ---- one row
 module _ (a c : List ℕ) (e i : ℕ) where
@@ -81,10 +79,15 @@ module _ (a c : List ℕ) (e i : ℕ) where
   bounded h g =
       ⊎_elim (λ l. let z = unmet l in omega arith) (λ m. let z = met m in let s = small (h i) (g (e - i + 15)) in omega arith) (below_or e i)
 
--- ---- the rows of a pass
+-- how far the rows are added: those of the first i places are in
+pub record Sofar (a c sums : List ℕ) (i : ℕ) (now : List ℕ) : Type 0 where
+  pub wide : length now ≡ length sums
+  pub each : (e : ℕ) → e < length sums → get_or now e 0 ≡ total i (meet_padded a c e)
+
 module _ (a c sums : List ℕ) (U : Unsummed a c sums) where
+  -- ---- the rows of a pass
   -- row j meets c where row i does, so many places less: fifteen zeros stand before c's first number
-  shifted : (e i j : ℕ) → i ≤ e → i ≤ j → j ≤ i + 15 → meet_padded a c e j ≡ get_or a j 0 * get_or c (e - i + (i + 15 - j)) 0
+  shifted : (e i j : ℕ) → i ≤ e → i ≤ j → j ≤ i + 15 → meet_padded a c e j ≡ one c (row_of a j (i + 15)) (e - i)
   shifted e i j l h g =
       ⊎_elim
       (λ m.
@@ -92,41 +95,33 @@ module _ (a c sums : List ℕ) (U : Unsummed a c sums) where
       (λ m. met a c e j m ∙ ap (λ (y : ℕ). get_or a j 0 * get_or c y 0) {x = e - j + 15} {y = e - i + (i + 15 - j)} (omega arith))
       (below_or e j)
 
-  -- what the rows i, i1, i2 and i3 bring
-  abbrev pass : ℕ → ℕ → ℕ → ℕ → ℕ → ℕ
-  pass i i1 i2 i3 = four c (i + 15 - i1) (i + 15 - i2) (i + 15 - i3) (get_or a i 0) (get_or a i1 0) (get_or a i2 0) (get_or a i3 0)
+  -- the rows of a pass from X^i on
+  abbrev just : ℕ → List Row
+  just i = row_of a i (i + 15) ∷ []
 
-  together : (e i i1 i2 i3 : ℕ) → i ≤ i1 → i1 ≤ i2 → i2 ≤ i3 → i3 ≤ i + 15
-      → meet_padded a c e i + meet_padded a c e i1 + meet_padded a c e i2 + meet_padded a c e i3 ≡ brought i (pass i i1 i2 i3) e
-  together e i i1 i2 i3 h1 h2 h3 g =
-      ⊎_elim
-      (λ l.
-      let z0 = unmet a c e i l in
-      let z1 = unmet a c e i1 (omega arith) in
-      let z2 = unmet a c e i2 (omega arith) in
-      let z3 = unmet a c e i3 (omega arith) in
-      rw (lt-leb i e l) (omega arith))
-      (λ l.
-      let z0 = met a c e i l in
-      let z1 = shifted e i i1 l h1 (omega arith) in
-      let z2 = shifted e i i2 l (omega arith) (omega arith) in
-      let z3 = shifted e i i3 l (omega arith) g in
-      (λ j. z0 j + z1 j + z2 j + z3 j) ∙ sym (all i l))
-      (below_or e i)
+  abbrev four : ℕ → ℕ → ℕ → ℕ → List Row
+  four i i1 i2 i3 = row_of a i (i + 15) ∷ row_of a i1 (i + 15) ∷ row_of a i2 (i + 15) ∷ row_of a i3 (i + 15) ∷ []
+
+  -- each is within reach
+  pub near : (i j : ℕ) (r : Row) → i ≤ j → r ≡ row_of a j (i + 15) → Near r
+  near i j r l e = rw e (record { small = U.left j; close = omega arith })
+
+  -- so a pass from X^i on brings what row j does
+  brings : (e i j : ℕ) → i ≤ j → j ≤ i + 15 → meet_padded a c e j ≡ brought i (one c (row_of a j (i + 15))) e
+  brings e i j h g = ⊎_elim (λ m. unmet a c e j (omega arith) ∙ sym (before m)) (λ m. shifted e i j m h g ∙ sym (behind m)) (below_or e i)
     where
-      all : (i : ℕ) → i ≤ e → brought i (pass i i1 i2 i3) e ≡ pass i i1 i2 i3 (e - i)
-      all i l = rw (le-leb i e l)
+      before : e < i → brought i (one c (row_of a j (i + 15))) e ≡ 0
+      before m = rw (lt-leb i e m)
 
-  pub record Sofar (i : ℕ) (now : List ℕ) : Type 0 where
-    pub wide : length now ≡ length sums
-    pub each : (e : ℕ) → e < length sums → get_or now e 0 ≡ total i (meet_padded a c e)
+      behind : i ≤ e → brought i (one c (row_of a j (i + 15))) e ≡ one c (row_of a j (i + 15)) (e - i)
+      behind m = rw (le-leb i e m)
 
-  pub sofar_none : Sofar 0 sums
+  pub sofar_none : Sofar a c sums 0 sums
   unfolding total
   sofar_none = record { wide = refl; each = λ e l. U.zeros e }
 
   -- room for the next pass
-  pub room : (i : ℕ) (now : List ℕ) → Sofar i now → i < length a → Room now c i
+  pub room : (i : ℕ) (now : List ℕ) → Sofar a c sums i now → i < length a → Room now c i
   room i now S l = record {
     some = omega (arith, U.long);
     zeros = U.behind;
@@ -143,42 +138,57 @@ module _ (a c sums : List ℕ) (U : Unsummed a c sums) where
   nothing : (e k : ℕ) → get_or a k 0 ≡ 0 → meet_padded a c e k ≡ 0
   nothing e k z = ⊎_elim (unmet a c e k) (λ m. met a c e k m ∙ ap (λ (x : ℕ). x * get_or c (e - k + 15) 0) z ∙ zero-mul (get_or c (e - k + 15) 0)) (below_or e k)
 
-  pub sofar_skip : (i : ℕ) (now : List ℕ) → Sofar i now → get_or a i 0 ≡ 0 → Sofar (i + 1) now
+  pub sofar_skip : (i : ℕ) (now : List ℕ) → Sofar a c sums i now → get_or a i 0 ≡ 0 → Sofar a c sums (i + 1) now
   sofar_skip i now S z = record {
     wide = S.wide;
     each = λ e l. S.each e l ∙ omega (arith, total_more i (meet_padded a c e), nothing e i z);
   }
 
   -- the three places that were found, with zeros between them
-  module _ (i i1 i2 i3 : ℕ) (P1 : Passed a (i + 1) (i + 13) i1) (P2 : Passed a (i1 + 1) (i + 14) i2) (P3 : Passed a (i2 + 1) (i + 15) i3) where
+  module _ (i i1 i2 i3 : ℕ) (P1 : Passed a (i + 1) (i + 15 - 2) i1) (P2 : Passed a (i1 + 1) (i + 15 - 1) i2) (P3 : Passed a (i2 + 1) (i + 15) i3) where
     gathered : (e : ℕ) → total (i3 + 1) (meet_padded a c e) ≡ total i (meet_padded a c e) + (meet_padded a c e i + meet_padded a c e i1 + meet_padded a c e i2 + meet_padded a c e i3)
     gathered e =
         total_four (meet_padded a c e) i i1 i2 i3 P1.start P2.start P3.start (λ k l m. nothing e k (P1.zeros k l m)) (λ k l m. nothing e k (P2.zeros k l m))
         (λ k l m. nothing e k (P3.zeros k l m))
 
-    pub sofar_four : (now more : List ℕ) → Sofar i now → Summed now i (pass i i1 i2 i3) more → Sofar (i3 + 1) more
+    pub sofar_four : (now more : List ℕ) → Sofar a c sums i now
+        → Summed now i (pass c (four i i1 i2 i3)) more → Sofar a c sums (i3 + 1) more
     sofar_four now more S M = record {
       wide = M.long ∙ S.wide;
       each = λ e l.
-          M.each e (omega (arith, S.wide)) ∙
-          (λ j. S.each e l j + sym (together e i i1 i2 i3 (omega (arith, P1.start)) (omega (arith, P2.start)) (omega (arith, P3.start)) P3.most) j) ∙
-          sym (gathered e);
+          omega (
+            arith,
+            M.each e (omega (arith, S.wide)),
+            S.each e l,
+            gathered e,
+            spread (leb i e) (one c (row_of a i (i + 15)) (e - i)) (one c (row_of a i1 (i + 15)) (e - i)) (one c (row_of a i2 (i + 15)) (e - i)) (one c (row_of a i3 (i + 15)) (e - i)),
+            brings e i i (omega arith) (omega arith),
+            brings e i i1 (omega (arith, P1.start)) (omega (arith, P1.most)),
+            brings e i i2 (omega (arith, P1.start, P2.start)) (omega (arith, P2.most)),
+            brings e i i3 (omega (arith, P1.start, P2.start, P3.start)) P3.most,
+          );
     }
 
     -- the row stands alone
-    pub sofar_one : (now more : List ℕ) → Sofar i now → get_or a i1 0 ≡ 0 → get_or a i2 0 ≡ 0 → get_or a i3 0 ≡ 0 → Summed now i (one c (get_or a i 0)) more → Sofar (i3 + 1) more
+    pub sofar_one : (now more : List ℕ) → Sofar a c sums i now → get_or a i1 0 ≡ 0 → get_or a i2 0 ≡ 0 → get_or a i3 0 ≡ 0
+        → Summed now i (pass c (just i)) more → Sofar a c sums (i3 + 1) more
     sofar_one now more S z1 z2 z3 M = record {
       wide = M.long ∙ S.wide;
       each = λ e l.
-          M.each e (omega (arith, S.wide)) ∙ ap (λ (x : ℕ). x + meet_padded a c e i) (S.each e l) ∙
-          sym (gathered e ∙ (λ j. total i (meet_padded a c e) + (meet_padded a c e i + nothing e i1 z1 j + nothing e i2 z2 j + nothing e i3 z3 j)) ∙
-          plain (total i (meet_padded a c e)) (meet_padded a c e i));
+          omega (
+            arith,
+            M.each e (omega (arith, S.wide)),
+            S.each e l,
+            gathered e,
+            alone (leb i e) (one c (row_of a i (i + 15)) (e - i)),
+            nothing e i1 z1,
+            nothing e i2 z2,
+            nothing e i3 z3,
+            brings e i i (omega arith) (omega arith),
+          );
     }
-      where
-        plain : (x y : ℕ) → x + (y + 0 + 0 + 0) ≡ x + y
-        plain x y = omega arith
 
-  pub sofar_all : (i : ℕ) (now : List ℕ) → Sofar i now → length a ≤ i → Unfolded a c now
+  pub sofar_all : (i : ℕ) (now : List ℕ) → Sofar a c sums i now → length a ≤ i → Unfolded a c now
   sofar_all i now S l = record {
     wide = S.wide ∙ U.wide;
     each = λ e m. S.each e (omega (arith, S.wide)) ∙ total_rest (length a) (meet_padded a c e) i l (λ k h g. empty a c e k h);

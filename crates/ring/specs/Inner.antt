@@ -1,9 +1,10 @@
 -- Inner: the product over remainders, as the engine computes it. No definition, and no promise of a public entry, rests on this file.
-use Rattle.std.specs.Prelude.{◌≡◌, cond, List, ℕ, zero, suc, ◌+◌, ◌-◌, ◌*◌, ◌^◌, ◌/◌, ◌≤◌, ◌<◌, ℤ, pos, ◌+ℤ◌, ◌*ℤ◌, leb, length, get_or}
+use Rattle.std.specs.Prelude.{◌≡◌, cond, List, ℕ, zero, suc, ◌+◌, ◌-◌, ◌*◌, ◌^◌, ◌/◌, ◌≤◌, ◌<◌, ℤ, pos, ◌+ℤ◌, ◌*ℤ◌, leb, length, get_or, sum_by}
 use Rattle.sets.specs.Set.{Set}
 use Rattle.residues.specs.Remainder.{residue}
 use Rattle.ring.specs.Ring.{sum, fold, prod, tab}
 use Rattle.ring.specs.Profile.{profile}
+use Rattle.ring.specs.declared.Row.{Row}
 
 -- an element of remainders, read as one of whole numbers
 abbrev pub whole : List ℕ → ℕ → ℤ
@@ -42,12 +43,21 @@ pub record Room (sums c : List ℕ) (i : ℕ) : Type 0 where
   pub each : (k : ℕ) → get_or c k 0 < 2 ^ 25
   pub sofar : (e : ℕ) → get_or sums e 0 ≤ i * 2 ^ 50
 
--- what one row brings k places after its first, and what four rows bring that meet the padded c at 15, s1, s2 and s3
-abbrev pub one : List ℕ → ℕ → ℕ → ℕ
-one c a k = a * get_or c (k + 15) 0
+-- the row of a's coefficient at a place, in a pass that begins fifteen places before `end`
+abbrev pub row_of : List ℕ → ℕ → ℕ → Row
+row_of a place end = record { factor = get_or a place 0; meets = end - place }
 
-abbrev pub four : List ℕ → ℕ → ℕ → ℕ → ℕ → ℕ → ℕ → ℕ → ℕ → ℕ
-four c s1 s2 s3 a0 a1 a2 a3 k = a0 * get_or c (k + 15) 0 + a1 * get_or c (k + s1) 0 + a2 * get_or c (k + s2) 0 + a3 * get_or c (k + s3) 0
+-- what a row, and what all rows of a pass, bring k places after the pass begins
+abbrev pub one : List ℕ → Row → ℕ → ℕ
+one c r k = r.factor * get_or c (k + r.meets) 0
+
+abbrev pub pass : List ℕ → List Row → ℕ → ℕ
+pass c rows k = sum_by (λ r. one c r k) rows
+
+-- a row's number is below 2^25, and it begins within reach
+pub record Near (r : Row) : Type 0 where
+  pub small : r.factor < 2 ^ 25
+  pub close : r.meets ≤ 15
 
 -- what a pass from X^i on brings to the coefficient of X^e
 abbrev pub brought : ℕ → (ℕ → ℕ) → ℕ → ℕ
@@ -65,7 +75,7 @@ pub record Passed (a : List ℕ) (from top at : ℕ) : Type 0 where
 
 -- the same as `meet`, with the padded b in the place of b
 abbrev pub meet_padded : List ℕ → List ℕ → ℕ → ℕ → ℕ
-meet_padded a c e i = brought i (one c (get_or a i 0)) e
+meet_padded a c e i = brought i (λ k. get_or a i 0 * get_or c (k + 15) 0) e
 
 -- no row is in the sums yet, and there is room for all of them
 pub record Unsummed (a c sums : List ℕ) : Type 0 where

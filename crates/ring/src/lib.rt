@@ -3,9 +3,9 @@
 
 pub mod set1;
 
-ghost use Rattle.std.specs.Prelude.{◌≡◌, ◌+◌, ◌-◌, ◌*◌, ◌^◌, ◌/◌, ◌%◌, ◌<◌, ◌≤◌, length, get_or, set, replicate};
+ghost use Rattle.std.specs.Prelude.{◌≡◌, ◌+◌, ◌-◌, ◌*◌, ◌^◌, ◌/◌, ◌%◌, ◌<◌, ◌≤◌, length, get_or, set, All};
 ghost use Rattle.sets.specs.Good.{Trinomial};
-ghost use Rattle.ring.specs.Inner.{multiplied, Residues, Padded, Room, one, four, Summed, Passed, Unsummed, Unfolded, Foldable, Folded, FoldedAll};
+ghost use Rattle.ring.specs.Inner.{multiplied, Residues, Padded, Room, row_of, pass, Near, Summed, Passed, Unsummed, Unfolded, Foldable, Folded, FoldedAll};
 
 use residues::divide::{modulo, wrap};
 use sets::limits;
@@ -15,101 +15,75 @@ use sets::numbers::Numbers;
 fn coefficient(a: &[u32], i: usize) -> u32
     ensures { result ≡ get_or a.now i 0 }
 {
-    if i < a.len() { a[i] } else { 0 }
+    a.get(i).copied().unwrap_or(0)
 }
 
 // How far the rows of one pass may lie apart. As many zeros stand before the padded factor and behind it.
 const REACH: usize = 15;
-
-// Zeros throughout.
-fn clear_words(words: &mut [u64])
-    ensures { words.new ≡ replicate (length words.old) 0 }
-{
-    let mut e: usize = 0;
-    while e < words.len() {
-        words[e] = 0;
-        e += 1;
-    }
-}
 
 // b between zeros, so that each row of a pass meets it at every place. A number takes a word, as its products do.
 fn pad(b: &[u32], out: &mut [u64])
     requires { length out.old ≡ length b.now + 30 }
     ensures { Padded b.now out.new }
 {
-    clear_words(out);
-    let mut k: usize = 0;
-    while k < b.len() {
-        out[k + REACH] = b[k] as u64;
-        k += 1;
+    out.fill(0);
+    for (k, &x) in b.iter().enumerate() {
+        out[k + REACH] = u64::from(x);
     }
 }
 
-// The whole product of two numbers.
+// The whole product of two numbers. That b takes 32 bits lets the compiler multiply by them alone.
 fn times(a: u32, b: u64) -> u64
     requires { b < 2 ^ 32 }
     ensures { result ≡ a * b }
 {
-    (a as u64) * ((b as u32) as u64)
+    u64::from(a) * u64::from(b as u32)
 }
 
-// Adds the row a X^i times the padded b. No product is reduced by itself.
-fn add_row(sums: &mut [u64], b: &[u64], i: usize, a: u32)
-    requires { Room sums.old b.now i × (a < 2 ^ 25) }
-    ensures { Summed sums.old i (one b.now a) sums.new }
-{
-    let n = b.len() - 2 * REACH;
-    let mut k: usize = 0;
-    while k < n {
-        let e = i + k;
-        sums[e] = sums[e] + times(a, b[k + REACH]);
-        k += 1;
+// A row of a pass: the padded b times a number of a. The row meets the padded b from place `meets` on, which is 15 where
+// the pass begins, and as many places less as the row begins further on.
+#[derive(Clone, Copy)]
+struct Row {
+    factor: u32,
+    meets: usize,
+}
+
+impl Row {
+    // The row of a's coefficient at `place`, in a pass that begins 15 places before `end`.
+    fn of(a: &[u32], place: usize, end: usize) -> Row
+        requires { place ≤ end }
+        ensures { result ≡ row_of a.now place end }
+    {
+        Row {
+            factor: coefficient(a, place),
+            meets: end - place,
+        }
     }
 }
 
-// Four rows in one pass: a0 X^i and three that lie up to 15 further on. Row r places further on meets the padded b at 15 - r.
-fn add_rows(
-    sums: &mut [u64],
-    b: &[u64],
-    i: usize,
-    s1: usize,
-    s2: usize,
-    s3: usize,
-    a0: u32,
-    a1: u32,
-    a2: u32,
-    a3: u32,
-)
-    requires room { Room sums.old b.now i × (s1 ≤ 15) × (s2 ≤ 15) × (s3 ≤ 15) }
-    requires a0_bound { (a0 < 2 ^ 25) × (a1 < 2 ^ 25) × (a2 < 2 ^ 25) × (a3 < 2 ^ 25) }
-    ensures { Summed sums.old i (four b.now s1 s2 s3 a0 a1 a2 a3) sums.new }
+// Adds rows in one pass that begins at X^i. No product is reduced by itself.
+fn add_rows<const R: usize>(sums: &mut [u64], b: &[u64], i: usize, rows: [Row; R])
+    requires room { Room sums.old b.now i }
+    requires near { (R ≤ 4) × All Near rows }
+    ensures { Summed sums.old i (pass b.now rows.entry) sums.new }
 {
-    let n = b.len() - REACH;
-    let mut k: usize = 0;
-    while k < n {
-        let e = i + k;
-        sums[e] = sums[e]
-            + (times(a0, b[k + REACH])
-                + times(a1, b[k + s1])
-                + times(a2, b[k + s2])
-                + times(a3, b[k + s3]));
-        k += 1;
+    for k in 0..b.len() - REACH {
+        let mut more = 0;
+        for row in rows {
+            more += times(row.factor, b[k + row.meets]);
+        }
+        sums[i + k] += more;
     }
 }
 
 // The next place from `from` on whose coefficient is not 0, or `top`.
 fn past_zeros(a: &[u32], from: usize, top: usize) -> usize
-    requires { (from ≤ top) × (top < 2 ^ 32) }
+    requires { from ≤ top }
     ensures { Passed a.now from top result }
 {
-    let mut at = from;
-    while at < top {
-        if 0 < coefficient(a, at) {
-            return at;
-        }
-        at += 1;
-    }
-    at
+    (from..top)
+        .find(|&at| coefficient(a, at) != 0)
+        .unwrap_or(top)
 }
 
 // The coefficients of a·b before exponents are folded. A zero of a costs nothing: rows are gathered four to a pass where four lie close, as
@@ -118,25 +92,26 @@ fn rows(a: &[u32], b: &[u64], sums: &mut [u64])
     requires { Unsummed a.now b.now sums.old }
     ensures { Unfolded a.now b.now sums.new }
 {
-    let mut next: usize = 0;
+    let mut next = 0;
+    // A turn goes on behind the last row that it took, so this is no `for` over the places.
     while next < a.len() {
         let i = next;
-        let a0 = a[i];
         next = i + 1;
-        if 0 < a0 {
+        if a[i] != 0 {
             // Three more places within reach: each search leaves room for the ones that follow.
-            let i1 = past_zeros(a, i + 1, i + 13);
-            let i2 = past_zeros(a, i1 + 1, i + 14);
-            let i3 = past_zeros(a, i2 + 1, i + REACH);
-            let a1 = coefficient(a, i1);
-            let a2 = coefficient(a, i2);
-            let a3 = coefficient(a, i3);
             let end = i + REACH;
+            let i1 = past_zeros(a, i + 1, end - 2);
+            let i2 = past_zeros(a, i1 + 1, end - 1);
+            let i3 = past_zeros(a, i2 + 1, end);
             next = i3 + 1;
-            if 0 < a1 + a2 + a3 {
-                add_rows(sums, b, i, end - i1, end - i2, end - i3, a0, a1, a2, a3);
+            let r0 = Row::of(a, i, end);
+            let r1 = Row::of(a, i1, end);
+            let r2 = Row::of(a, i2, end);
+            let r3 = Row::of(a, i3, end);
+            if 0 < r1.factor + r2.factor + r3.factor {
+                add_rows(sums, b, i, [r0, r1, r2, r3]);
             } else {
-                add_row(sums, b, i, a0);
+                add_rows(sums, b, i, [r0]);
             }
         }
     }
@@ -150,7 +125,7 @@ fn add_at(out: &mut [u32], q: u32, k: usize, c: u32)
     out[k] = wrap(q, out[k] + c);
 }
 
-// How many halves of n an exponent has passed.
+// How many halves of n an exponent has passed. Comparisons, since with `e / half` the product with a challenge took a third longer.
 fn range_of(half: usize, e: usize) -> usize
     requires { (0 < half) × (e < 4 * half) × (half ≤ 2048) }
     ensures { result ≡ e / half }
@@ -193,34 +168,10 @@ fn fold_all(p: Numbers, sums: &[u64], out: &mut [u32])
     ensures { FoldedAll p sums.now out.new }
 {
     let half = p.n / 2;
-    let count = 2 * p.n - 1;
-    buffers::clear_numbers(out);
-    let mut e: usize = 0;
-    while e < count {
-        let c = modulo(p.q, sums[e]);
-        fold_in(out, half, p.q, e, c);
-        e += 1;
+    out.fill(0);
+    for (e, &sum) in sums[..2 * p.n - 1].iter().enumerate() {
+        fold_in(out, half, p.q, e, modulo(p.q, sum));
     }
-}
-
-// The product in lent memory: n + 30 words and 2n + 14 sums.
-fn multiply_in(
-    p: Numbers,
-    a: &[u32],
-    b: &[u32],
-    padded: &mut [u64],
-    sums: &mut [u64],
-    out: &mut [u32],
-)
-    requires trinomial { Trinomial p }
-    requires residues { Residues p a.now × Residues p b.now × (length out.old ≡ p.n) }
-    requires padded_len { (length padded.old ≡ p.n + 30) × (length sums.old ≡ 2 * p.n + 14) }
-    ensures { out.new ≡ multiplied p a.now b.now }
-{
-    pad(b, padded);
-    clear_words(sums);
-    rows(a, padded, sums);
-    fold_all(p, sums, out);
 }
 
 // The product of two elements of remainders.
@@ -230,8 +181,11 @@ pub fn multiply(p: Numbers, a: &[u32], b: &[u32], out: &mut [u32])
     ensures { out.new ≡ multiplied p a.now b.now }
 {
     let mut padded = [0u64; limits::CAPACITY + 30];
+    let padded = &mut padded[..p.n + 30];
+    pad(b, padded);
     let mut sums = [0u64; 2 * limits::CAPACITY + 14];
-    let wide = p.n + 30;
-    let long = 2 * p.n + 14;
-    multiply_in(p, a, b, &mut padded[..wide], &mut sums[..long], out);
+    let sums = &mut sums[..2 * p.n + 14];
+    sums.fill(0);
+    rows(a, padded, sums);
+    fold_all(p, sums, out);
 }

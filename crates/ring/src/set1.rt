@@ -5,21 +5,21 @@ ghost use Rattle.answers.specs.Result.{outcome};
 ghost use Rattle.ring.specs.Calls.{product_call};
 ghost use Rattle.sets.specs.Set.{set1};
 
-use answers::{Answer, Buffer, Refusal};
+use answers::{Buffer, Refusal};
 use sets::set1::Set1;
 
 // SPEC 2.6: the call. Its factors are read mod q, and it answers in 0..q-1.
-pub fn product(first: &[i32], second: &[i32], out: &mut [i32]) -> Answer
+pub fn product(first: &[i32], second: &[i32], out: &mut [i32]) -> Result<(), Refusal>
     ensures { Is (outcome (product_call set1 first.now second.now out.old) out.old) (report_of result) out.new }
 {
     if first.len() != Set1::N {
-        return Answer::Refused(Refusal::Length(Buffer::First));
+        return Err(Refusal::Length(Buffer::First));
     }
     if second.len() != Set1::N {
-        return Answer::Refused(Refusal::Length(Buffer::Second));
+        return Err(Refusal::Length(Buffer::Second));
     }
     if out.len() != Set1::N {
-        return Answer::Refused(Refusal::Length(Buffer::Coefficients));
+        return Err(Refusal::Length(Buffer::Coefficients));
     }
     let mut a = [0u32; Set1::N];
     let mut b = [0u32; Set1::N];
@@ -28,5 +28,5 @@ pub fn product(first: &[i32], second: &[i32], out: &mut [i32]) -> Answer
     buffers::convert::reduce_all(Set1::Q, second, &mut b);
     crate::multiply(Set1::numbers(), &a, &b, &mut c);
     buffers::convert::store_plain(&c, out);
-    Answer::Done
+    Ok(())
 }

@@ -1,7 +1,7 @@
 -- The rules read their arguments mod q; the laws of hints through the norm, for remainders.
 use mathlib.Core.Path.{◌≡◌, refl, sym, ap, ◌∙◌}
 use mathlib.Core.Bool.{cond}
-use Prim.Native.Nat.{ℕ, ◌+◌, ◌-◌, ◌*◌, ◌/◌, ◌^◌, ◌≤◌, ◌<◌}
+use Prim.Native.Nat.{ℕ, ◌+◌, ◌-◌, ◌*◌, ◌/◌, ◌%◌, ◌^◌, ◌≤◌, ◌<◌}
 use native.Mathlib.Nat.{mod-lt, div-add-mod', mul-le-mul_right}
 use native.Mathlib.Omega.{arith}
 use lib.Dec.{eqb}
@@ -10,7 +10,7 @@ use Rattle.sets.specs.Set.{Set, alpha}
 use Rattle.sets.specs.Good.{Good}
 use Rattle.residues.specs.Remainder.{residue, centred, magnitude}
 use Rattle.residues.proofs.Differences.{abs_sub_le}
-use Rattle.residues.proofs.Remainders.{residue_plus}
+use Rattle.residues.proofs.Remainders.{residue_again, residue_plus}
 use Rattle.residues.proofs.Centres.{residue_centred}
 use Rattle.rounding.specs.Rounding.{rest, parts, decompose, high_bits, low_bits, make_hint, moved, use_hint, power2_round}
 use Rattle.rounding.proofs.Closed.{step_of}
@@ -43,6 +43,20 @@ module _ (p : Set) (good : Good p) where
   pub hint_cong : (z w r s : ℤ) → residue p.q z ≡ residue p.q w → residue p.q r ≡ residue p.q s → make_hint p z r ≡ make_hint p w s
   unfolding make_hint
   hint_cong z w r s e f = simp (high_cong r s f, high_cong (r +ℤ z) (s +ℤ w) (residue_plus p.q q_pos r s z w f e))
+
+  -- a number and its remainder
+  pub high_mod : (n : ℕ) → high_bits p (pos (n % p.q)) ≡ high_bits p (pos n)
+  unfolding residue
+  high_mod n = high_cong (pos (n % p.q)) (pos n) (residue_again p.q q_pos (pos n))
+
+  pub use_again : (h : ℕ) (r : ℤ) → use_hint p h (pos (residue p.q r)) ≡ use_hint p h r
+  use_again h r = use_cong h (pos (residue p.q r)) r (residue_again p.q q_pos r)
+
+  pub power_again : (r : ℤ) → power2_round p (pos (residue p.q r)) ≡ power2_round p r
+  power_again r = power_cong (pos (residue p.q r)) r (residue_again p.q q_pos r)
+
+  pub hint_again : (z r : ℤ) → make_hint p (pos (residue p.q z)) (pos (residue p.q r)) ≡ make_hint p z r
+  hint_again z r = hint_cong (pos (residue p.q z)) z (pos (residue p.q r)) r (residue_again p.q q_pos z) (residue_again p.q q_pos r)
 
   centre : (z : ℤ) → residue p.q z ≡ residue p.q (centred p.q z)
   centre z = sym (residue_centred p.q q_pos z)

@@ -1,13 +1,11 @@
 -- Each public contract of this crate permits one outcome.
 use mathlib.Core.Path.{◌≡◌, refl, sym, ap, ap₂, ◌∙◌}
 use Prim.Native.Nat.{ℕ}
+use Rattle.std.specs.Prelude.{Result, Ok, Err}
 use Rattle.outcome.proofs.One.{One}
-use Rattle.answers.specs.declared.Answer.{Answer}
-use Rattle.answers.specs.declared.Answer.TheVariants.{Done, Refused as RefusedAnswer}
-use Rattle.answers.specs.Refusals.{report_of}
+use Rattle.answers.specs.declared.Refusal.{Refusal}
+use Rattle.answers.specs.Refusals.{Answer, report_of}
 use Rattle.answers.proofs.Reports.{report_one}
-use Rattle.rounding.specs.declared.set1.Used.{Used}
-use Rattle.rounding.specs.declared.set1.Used.TheVariants.{High, Refused}
 use Rattle.rounding.specs.Used.{used_report}
 use Rattle.rounding.proofs.split_of.Reads as split_of
 use Rattle.rounding.proofs.split_of.Kinds as split_of_kinds
@@ -41,23 +39,23 @@ use Rattle.rounding.proofs.set1.norm.Reads as norm
 use Rattle.rounding.proofs.set1.norm.Kinds as norm_kinds
 
 -- an answer of UseHint is known by its report and its high bits
-abbrev answer_of : Used → Answer
-answer_of (High v) = Done
-answer_of (Refused r) = RefusedAnswer r
+abbrev answer_of : Result ℕ Refusal → Answer
+answer_of (Ok v) = Ok tt
+answer_of (Err r) = Err r
 
-abbrev used_from : Answer → ℕ → Used
-used_from Done v = High v
-used_from (RefusedAnswer r) v = Refused r
+abbrev used_from : Answer → ℕ → Result ℕ Refusal
+used_from (Ok u) v = Ok v
+used_from (Err r) v = Err r
 
-read_back : (u : Used) → used_from (answer_of u) (used_report u).1 ≡ u
-read_back (High v) = refl
-read_back (Refused r) = refl
+read_back : (u : Result ℕ Refusal) → used_from (answer_of u) (used_report u).1 ≡ u
+read_back (Ok v) = refl
+read_back (Err r) = refl
 
-report_is : (u : Used) → report_of (answer_of u) ≡ (used_report u).0
-report_is (High v) = refl
-report_is (Refused r) = refl
+report_is : (u : Result ℕ Refusal) → report_of (answer_of u) ≡ (used_report u).0
+report_is (Ok v) = refl
+report_is (Err r) = refl
 
-used_one : (u v : Used) → used_report u ≡ used_report v → u ≡ v
+used_one : (u v : Result ℕ Refusal) → used_report u ≡ used_report v → u ≡ v
 used_one u v e =
     sym (read_back u) ∙
     ap₂ used_from (report_one (answer_of u) (answer_of v) (report_is u ∙ ap (λ r. r.0) e ∙ sym (report_is v))) (ap (λ r. r.1) e) ∙
@@ -84,7 +82,7 @@ power_of_one κs a x y s t p q = (p ∙ sym q, refl)
 
 -- set 1
 pub plain_remainder_one : One 0 plain_remainder_kinds.ps plain_remainder_kinds.r plain_remainder.Post (λ κs s. tt {0})
-plain_remainder_one κs a x y s t p q = (p ∙ sym q, refl)
+plain_remainder_one κs a x y s t p q = (p.0 ∙ sym q.0, refl)
 
 pub centred_remainder_one : One 0 centred_remainder_kinds.ps centred_remainder_kinds.r centred_remainder.Post (λ κs s. tt {0})
 centred_remainder_one κs a x y s t p q = (p ∙ sym q, refl)

@@ -2,11 +2,8 @@
 pub mod Closed
 pub mod Hints
 pub mod Congruent
-pub mod Room
 pub mod Small
-pub mod Uses
 pub mod Power
-pub mod Signed
 pub mod Norms
 pub mod Halves
 pub mod Recovers

@@ -56,16 +56,6 @@ module _ (p : Set) (good : Good p) where
   pub half_room : half p ≤ 2 ^ 16
   half_room = pow_mono {i = p.d - 1} {j = 16} (omega (arith, good.d_room))
 
-  -- d is not 0
-  pub d_pos : 1 ≤ p.d
-  d_pos = go p.d good.halves
-    where
-      go : (d : ℕ) → 2 ^ d ≡ 2 * 2 ^ (d - 1) → 1 ≤ d
-      go d e = ⊎_elim (λ h. absurd (one d (omega arith) e)) (λ h. h) (below_or d 1)
-        where
-          one : (d : ℕ) → d ≡ 0 → 2 ^ d ≡ 2 * 2 ^ (d - 1) → ⊥
-          one d z e = let f : 2 ^ 0 ≡ 2 * 2 ^ (0 - 1) = rw z at e in omega arith
-
   -- a shift by d - 1, as the machine has it
   pub shifted : (1 * 2 ^ (p.d - 1)) % 2 ^ 32 ≡ half p
   shifted = let l = half_room in mod-eq_of_lt {n = 1 * 2 ^ (p.d - 1)} {m = 2 ^ 32} (omega arith) ∙ omega arith

@@ -10,13 +10,14 @@ ghost use Rattle.rounding.specs.Rounding.{parts, high_bits, low_bits, make_hint,
 use residues::divide::{quotient, wrap};
 use sets::numbers::Numbers;
 
-#[derive(Clone, Copy)]
+#[derive(Clone, Copy, PartialEq, Eq, Debug)]
 pub struct Split {
     pub high: u32,
     pub low: i32,
 }
 
-// SPEC 3.4: Decompose of a remainder. With u = x + γ2 mod q the high bits are (u - 1)/α, and no case is left for the top half step.
+// SPEC 3.4: Decompose of a remainder. With u = x + γ2 mod q the high bits are (u - 1)/α, where 0 - 1 is 0, and no case is left for the
+// top half step.
 pub fn split_of(p: Numbers, x: u32) -> Split
     requires good { Good p }
     requires x_lt_q { x < p.q }
@@ -24,15 +25,9 @@ pub fn split_of(p: Numbers, x: u32) -> Split
 {
     let g = p.gamma2;
     let u = wrap(p.q, x + g);
-    if u == 0 {
-        return Split {
-            high: 0,
-            low: residues::difference(0, g),
-        };
-    }
-    let high = quotient(2 * g, u - 1);
+    let high = quotient(2 * g, u.saturating_sub(1));
     Split {
-        high: high,
+        high,
         low: residues::difference(u, g + high * (2 * g)),
     }
 }
@@ -43,9 +38,7 @@ pub fn high_of(p: Numbers, x: u32) -> u32
     requires x_lt_q { x < p.q }
     ensures { result ≡ high_bits p (pos x) }
 {
-    let g = p.gamma2;
-    let u = wrap(p.q, x + g);
-    if u == 0 { 0 } else { quotient(2 * g, u - 1) }
+    split_of(p, x).high
 }
 
 // SPEC 3.5: the magnitude of the low bits.
@@ -54,13 +47,7 @@ pub fn low_of(p: Numbers, x: u32) -> u32
     requires x_lt_q { x < p.q }
     ensures { result ≡ nat_abs (low_bits p (pos x)) }
 {
-    let g = p.gamma2;
-    let u = wrap(p.q, x + g);
-    if u == 0 {
-        return g;
-    }
-    let middle = g + quotient(2 * g, u - 1) * (2 * g);
-    if middle <= u { u - middle } else { middle - u }
+    split_of(p, x).low.unsigned_abs()
 }
 
 // SPEC 3.6: MakeHint of two remainders.
@@ -70,11 +57,7 @@ pub fn hint_of(p: Numbers, z: u32, r: u32) -> u32
     ensures { result ≡ make_hint p (pos z) (pos r) }
 {
     let sum = wrap(p.q, r + z);
-    if high_of(p, r) == high_of(p, sum) {
-        0
-    } else {
-        1
-    }
+    u32::from(high_of(p, r) != high_of(p, sum))
 }
 
 // SPEC 3.7: UseHint of a hint and a remainder: every hint but 0 is taken as 1.
@@ -83,17 +66,13 @@ pub fn used_of(p: Numbers, h: u32, r: u32) -> u32
     requires r_lt_q { r < p.q }
     ensures { result ≡ use_hint p h (pos r) }
 {
-    let s = split_of(p, r);
-    let high = s.high;
+    let Split { high, low } = split_of(p, r);
     if h == 0 {
         return high;
     }
     let m = quotient(2 * p.gamma2, p.q - 1);
-    if 0 < s.low {
-        wrap(m, high + 1)
-    } else {
-        wrap(m, high + (m - 1))
-    }
+    let step = if 0 < low { 1 } else { m - 1 };
+    wrap(m, high + step)
 }
 
 // SPEC 3.8: Power2Round of a remainder: r1 is (x + 2^(d-1) - 1)/2^d.
@@ -105,7 +84,7 @@ pub fn power_of(p: Numbers, x: u32) -> Split
     let half = 1u32 << (p.d - 1);
     let high = (x + (half - 1)) / (2 * half);
     Split {
-        high: high,
+        high,
         low: residues::difference(x, high * (2 * half)),
     }
 }

@@ -11,7 +11,7 @@ module _ (p : Set) (good : Good p) where
   pub q_most : 2 < p.q
   q_most = omega (arith, pow_pos p.d, good.t0_half)
 
-  -- a group of a has a byte at least, and its low bits are at most 32
+  -- a group of a has a byte at least
   pub some_bytes : 0 < p.abytes
   some_bytes = ⊎_elim (λ l. l) none (below_or 0 p.abytes)
     where
@@ -19,6 +19,3 @@ module _ (p : Set) (good : Good p) where
       none l =
           let m : 2 ^ p.abits ≤ 2 ^ 0 = pow_mono {i = p.abits} {j = 0} (omega (arith, good.a_bytes)) in
           absurd (omega (arith, good.a_fits, q_most))
-
-  pub few_bits : p.abits ≤ 32
-  few_bits = omega (arith, good.a_bytes, good.a_room)

@@ -1,6 +1,6 @@
 -- Draws that pass, written into a buffer one after the other, and what that is in the definitions' terms.
 use mathlib.Core.Path.{◌≡◌, refl, sym, ap, ap₂, ◌∙◌}
-use mathlib.Core.Bool.{Bool, true, false, ◌&&◌, cond}
+use mathlib.Core.Bool.{Bool, true, false, ◌&&◌}
 use mathlib.Core.List.{List, [], ◌∷◌, ◌++◌, map}
 use mathlib.Core.Logic.{⊎_elim}
 use Prim.Native.Nat.{ℕ, zero, suc, ◌+◌, ◌-◌, ◌≤◌, ◌<◌}
@@ -10,30 +10,23 @@ use native.Mathlib.Omega.{arith}
 use borrow.Author.Tests.{eqb-true, lt-ltb, le-ltb, eq-eqb, ne_eqb}
 use lib.Dec.{ltb, eqb, eqb-suc-suc, eqb-zero-suc}
 use lib.IntN.{ℤ}
-use lib.ListN.{length, get_or, take, drop, set, replicate, length-set, length-replicate, take-append-drop}
-use lib.Seq.{take-suc-set, drop-set-lt, take_all, append_snoc, set-get_or, get_or-set_other}
+use lib.ListN.{length, take, drop, set, replicate, length-set, length-replicate, take-append-drop}
+use lib.Seq.{take-suc-set, drop-set-lt, take_all, append_snoc, get_or-set_other}
 use Rattle.residues.proofs.Order.{below_or}
 use Rattle.outcome.specs.Outcome.{Is}
 use Rattle.buffers.specs.Buffers.{overlay}
 use Rattle.buffers.proofs.Copies.{overlay_all}
 use Rattle.answers.specs.Result.{pick}
-use Rattle.sampling.specs.declared.Sampled.{Sampled}
-use Rattle.sampling.specs.declared.Sampled.TheVariants.{All, Dry}
 use Rattle.sampling.specs.Samplers.{Drawn, dry, drew, also, first}
-use Rattle.sampling.specs.Inner.{verdict, passing, gathered, Free, kept, filled}
+use Rattle.std.specs.Prelude.{Ok, Err}
+use Rattle.sampling.specs.Inner.{Sampled, dry_stream, verdict, passing, gathered, Free, kept, filled}
 
 -- what an answer and a buffer say of a stream
 abbrev pub said : Sampled → List ℤ → Drawn
-said All zs = drew zs
-said Dry zs = dry
+said (Ok u) zs = drew zs
+said (Err e) zs = dry
 
 module _ {A : Type 0} (none : A) where
-  -- a draw that does not pass writes 0 over 0
-  pub kept_by : (b : Bool) (x : A) (f : ℕ) (out : List A) (f' : ℕ) (out' : List A) → get_or out f none ≡ none
-      → f' ≡ cond b (f + 1) f → out' ≡ set out f (cond b x none) → Is (kept b x f out) f' out'
-  kept_by true x f out f' out' z e h = record { answers = e; leaves = h }
-  kept_by false x f out f' out' z e h = record { answers = e; leaves = h ∙ ap (set out f) (sym z) ∙ set-get_or out f none }
-
   free_set : (f : ℕ) (out : List A) (x : A) → Free none f out → Free none (f + 1) (set out f x)
   free_set f out x F k l = get_or-set_other out f k x none (λ e. omega arith) ∙ F k (omega arith)
 
@@ -210,12 +203,12 @@ module _ {A : Type 0} (ok : ℕ → Bool) (means : ℕ → A) where
                 (ap (λ (k : ℕ). drop k zeros) (zero-add (length found))),
           )
 
-      pub found_all : (ys : List ℕ) (f : ℕ) (out : List A) → Filled ys n f out ≡ Filled xs n 0 zeros → n ≤ f → Is (gathered none n found) All out
+      pub found_all : (ys : List ℕ) (f : ℕ) (out : List A) → Filled ys n f out ≡ Filled xs n 0 zeros → n ≤ f → Is (gathered none n found) (Ok tt) out
       found_all ys f out h l =
           let g = gathered_is f out (sym h ∙ filled_full ys n f out l) in
           record { answers = sym (ap verdict (eq-eqb (length found) n (omega (arith, passing_most xs n)))); leaves = g.1 }
 
-      pub found_some : (f : ℕ) (out : List A) → Filled [] n f out ≡ Filled xs n 0 zeros → f < n → Is (gathered none n found) Dry out
+      pub found_some : (f : ℕ) (out : List A) → Filled [] n f out ≡ Filled xs n 0 zeros → f < n → Is (gathered none n found) dry_stream out
       found_some f out h l =
           let g = gathered_is f out (sym h ∙ filled_nil n f out) in
           record { answers = sym (ap verdict (ne_eqb (length found) n (λ z. omega arith))); leaves = g.1 }

@@ -10,6 +10,7 @@ pub mod Filling
 pub mod Placing
 pub mod Samplings
 pub mod Reading
+pub mod Finding
 pub mod Going
 pub mod Taking
 pub mod Stepping

@@ -10,9 +10,8 @@ use Rattle.digits.specs.Digits.{value}
 use Rattle.outcome.specs.Outcome.{Is}
 use Rattle.sets.specs.Set.{Set}
 use Rattle.answers.specs.Result.{pick}
-use Rattle.sampling.specs.declared.Sampled.{Sampled}
 use Rattle.sampling.specs.Samplers.{dry, drew, sample_a, sample_s, challenge}
-use Rattle.sampling.specs.Inner.{verdict, a_draws, s_draws, c_draws, is_a, is_s, means_s, placing, drawn_a, drawn_s, drawn_c}
+use Rattle.sampling.specs.Inner.{Sampled, verdict, a_draws, s_draws, c_draws, is_a, is_s, means_s, placing, drawn_a, drawn_s, drawn_c}
 use Rattle.sampling.proofs.Filling.{said, tied}
 use Rattle.sampling.proofs.Placing.{placed_placing}
 

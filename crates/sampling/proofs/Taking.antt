@@ -1,15 +1,14 @@
 -- The loop over the codes of one group of s.
 use mathlib.Core.Path.{◌≡◌, sym, ap, ap₂, ◌∙◌}
 use mathlib.Core.List.{List, ◌∷◌}
-use Prim.Native.Nat.{ℕ, suc, ◌+◌, ◌-◌, ◌*◌, ◌/◌, ◌%◌, ◌^◌, ◌≤◌, ◌<◌}
+use Prim.Native.Nat.{ℕ, suc, ◌+◌, ◌-◌, ◌/◌, ◌%◌, ◌^◌, ◌≤◌, ◌<◌}
 use native.Mathlib.Omega.{arith}
 use lib.IntN.{ℤ, pos}
-use lib.ListN.{length, get_or, take, drop}
+use lib.ListN.{length}
 use Rattle.digits.specs.Digits.{value, digits, codes}
 use Rattle.outcome.specs.Outcome.{Is}
 use Rattle.sets.specs.Set.{Set}
 use Rattle.sampling.specs.Inner.{Free, kept, filled, is_s, means_s}
-use Rattle.sampling.proofs.Reading.{codes_in_window}
 use Rattle.sampling.proofs.Filling.{kept_free, filled_one, filled_full, filled_nil}
 
 module _ (p : Set) (bs : List ℕ) (count : ℕ) (old : List ℤ) (first : ℕ) where
@@ -26,15 +25,13 @@ module _ (p : Set) (bs : List ℕ) (count : ℕ) (old : List ℤ) (first : ℕ) 
     pub free : Free (pos 0) found out
     pub same : Filled (digits (2 ^ p.sbits) (count - i) left) found out ≡ all
 
-  pub taking_none : ((k : ℕ) → get_or bs k 0 < 256) → p.sbits * count ≤ 32 → length old ≡ p.n → Free (pos 0) first old
-      → (left : ℕ) → left ≡ value 256 (take 4 (drop 0 bs)) → Taking old first 0 left
-  taking_none small l e f left h = record {
+  pub taking_none : length old ≡ p.n → Free (pos 0) first old → (left : ℕ) → left ≡ value 256 bs → Taking old first 0 left
+  unfolding codes
+  taking_none e f left h = record {
     within = omega arith;
     long = e;
     free = f;
-    same =
-        ap (λ (xs : List ℕ). Filled xs first old)
-        (ap₂ (digits (2 ^ p.sbits)) {x = count - 0} {y = count} (omega arith) h ∙ codes_in_window bs p.sbits count small l);
+    same = ap (λ (xs : List ℕ). Filled xs first old) (ap₂ (digits (2 ^ p.sbits)) {x = count - 0} {y = count} (omega arith) h);
   }
 
   module _ (out : List ℤ) (found i left : ℕ) (T : Taking out found i left) where

@@ -1,17 +1,23 @@
 -- Inner: what the samplers answer and leave behind, where the stream is dry too. No definition, and no promise of a public entry, rests on this file.
-use Rattle.std.specs.Prelude.{◌≡◌, Bool, true, false, ◌&&◌, List, [], ◌∷◌, map, ℕ, zero, suc, ◌+◌, ◌-◌, ◌*◌, ◌/◌, ◌%◌, ◌^◌, ◌≤◌, leb, ltb, eqb, ℤ, pos, ◌-ℤ◌, length, take, drop, set, replicate, get_or}
+use Rattle.std.specs.Prelude.{◌≡◌, Bool, true, false, ◌&&◌, Result, Ok, Err, List, [], ◌∷◌, map, ℕ, zero, suc, ◌+◌, ◌-◌, ◌*◌, ◌/◌, ◌%◌, ◌^◌, ◌≤◌, leb, ltb, eqb, ℤ, pos, ◌-ℤ◌, length, take, drop, set, replicate, get_or}
 use Rattle.sets.specs.Set.{Set}
 use Rattle.answers.specs.Result.{pick}
 use Rattle.buffers.specs.Buffers.{overlay}
 use Rattle.digits.specs.Digits.{value, codes}
-use Rattle.sampling.specs.declared.Sampled.{Sampled}
-use Rattle.sampling.specs.declared.Sampled.TheVariants.{All, Dry}
+use Rattle.sampling.specs.declared.Dry.{Dry}
 use Rattle.sampling.specs.Samplers.{groups, sign}
+
+-- what a sampler answers
+abbrev pub Sampled : Type 0
+Sampled = Result (Unit {0}) Dry
+
+abbrev pub dry_stream : Sampled
+dry_stream = Err (record {})
 
 -- every coefficient was found, or not
 abbrev pub verdict : Bool → Sampled
-verdict true = All
-verdict false = Dry
+verdict true = Ok tt
+verdict false = dry_stream
 
 -- ---- a and s
 -- the draws of a stream

@@ -1,19 +1,21 @@
 // The challenge (SPEC 5.5).
-ghost use Rattle.std.specs.Prelude.{◌≡◌, ◌+◌, ◌%◌, ◌<◌, ◌≤◌, pos, length, take, drop, get_or, set};
+ghost use Rattle.std.specs.Prelude.{◌≡◌, ◌%◌, ◌<◌, ◌≤◌, pos, length, take, get_or, set};
 ghost use Rattle.outcome.specs.Outcome.{Is};
 ghost use Rattle.sets.specs.Good.{Good};
 ghost use Rattle.digits.specs.Digits.{value};
 ghost use Rattle.sampling.specs.Samplers.{sign};
 ghost use Rattle.sampling.specs.Inner.{drawn_c};
 
-use crate::Sampled;
+use crate::Dry;
 use sets::numbers::Numbers;
 
-// The number whose bit k is the sign of step k (SPEC 5.5).
+// The number whose bit k is the sign of step k (SPEC 5.5). A stream that is too short for it has no draws either.
 fn sign_bits(stream: &[u8]) -> u64
-    ensures { result ≡ value 256 (take 8 stream.now) }
+    ensures { 8 ≤ length stream.now → result ≡ value 256 (take 8 stream.now) }
 {
-    (digits::window(stream, 0) as u64) + 4294967296 * (digits::window(stream, 4) as u64)
+    stream
+        .first_chunk()
+        .map_or(0, |head| u64::from_le_bytes(*head))
 }
 
 // A 1 means -1 (SPEC 5.5).
@@ -23,13 +25,12 @@ fn sign(bit: u64) -> i32
     if bit == 1 { -1 } else { 1 }
 }
 
-// The draw at a place of the stream, below a power of two.
-fn draw(power: usize, stream: &[u8], at: usize) -> usize
-    requires { (0 < power) × (at + 2 ≤ length stream.now) }
-    ensures { result ≡ value 256 (take 2 (drop at stream.now)) % power }
+// A draw, below a power of two.
+fn draw(power: usize, pair: [u8; 2]) -> usize
+    requires { 0 < power }
+    ensures { result ≡ value 256 pair % power }
 {
-    let next = at + 1;
-    (stream[at] as usize + 256 * (stream[next] as usize)) % power
+    usize::from(u16::from_le_bytes(pair)) % power
 }
 
 // Place i takes the value at j, and j takes v.
@@ -42,30 +43,20 @@ fn put(out: &mut [i32], i: usize, j: usize, v: i32)
 }
 
 // A draw past its place is drawn again, never reduced.
-pub fn draw_challenge(p: Numbers, stream: &[u8], out: &mut [i32]) -> Sampled
+pub fn draw_challenge(p: Numbers, stream: &[u8], out: &mut [i32]) -> Result<(), Dry>
     requires good { Good p }
     requires out_len { length out.old ≡ p.n }
     ensures { Is (drawn_c p stream.now) result out.new }
 {
-    buffers::clear_signed(out);
-    let wide = p.jbits as u32;
-    let power = 1usize << wide;
-    let mut place = p.n - p.tau;
+    buffers::clear(out, 0);
+    let power = 1usize << p.jbits;
     let mut signs = sign_bits(stream);
-    let mut at: usize = 8;
-    while place < p.n {
-        let end = at + 2;
-        let past = place + 1;
-        if stream.len() < end {
-            return Sampled::Dry;
-        }
-        let j = draw(power, stream, at);
-        at = end;
-        if j < past {
-            put(out, place, j, sign(signs % 2));
-            place = past;
-            signs = signs / 2;
-        }
+    let (pairs, _) = stream[stream.len().min(8)..].as_chunks();
+    let mut draws = pairs.iter().map(|pair| draw(power, *pair));
+    for place in p.n - p.tau..p.n {
+        let j = draws.find(|j| *j <= place).ok_or(Dry)?;
+        put(out, place, j, sign(signs % 2));
+        signs /= 2;
     }
-    Sampled::All
+    Ok(())
 }

@@ -1,47 +1,38 @@
 // a (SPEC 5.2).
-ghost use Rattle.std.specs.Prelude.{◌≡◌, ◌%◌, ◌^◌, ◌<◌, ltb, length, take, get_or};
+ghost use Rattle.std.specs.Prelude.{◌≡◌, ◌%◌, ◌^◌, length, take};
 ghost use Rattle.outcome.specs.Outcome.{Is};
 ghost use Rattle.sets.specs.Good.{Good};
 ghost use Rattle.digits.specs.Digits.{value};
-ghost use Rattle.sampling.specs.Inner.{kept, drawn_a};
+ghost use Rattle.sampling.specs.Inner.{drawn_a};
 
-use crate::Sampled;
+use crate::Dry;
 use sets::numbers::Numbers;
 
-// The group that stands first, of which the low bits are kept.
-fn group(p: Numbers, stream: &[u8]) -> u32
+// The low bits of the group that stands first, which are kept.
+fn low_bits(p: Numbers, rest: &[u8]) -> u32
     requires { Good p }
-    ensures { result ≡ value 256 (take p.abytes stream.now) % 2 ^ p.abits }
+    ensures { result ≡ value 256 (take p.abytes rest.now) % 2 ^ p.abits }
 {
-    let wide = p.abits as u32;
-    ((digits::window(stream, 0) as u64) % (1u64 << wide)) as u32
+    (u64::from(digits::window(rest, 0)) % (1u64 << p.abits)) as u32
 }
 
-// A group below q goes to the next place, which holds 0.
-fn keep(q: u32, v: u32, out: &mut [u32], found: usize) -> usize
-    requires { (found < length out.old) × (get_or out.old found 0 ≡ 0) }
-    ensures { Is (kept (ltb v q) v found out.old) result out.new }
-{
-    let passes = v < q;
-    out[found] = crate::taken(passes, v);
-    crate::counted(passes, found)
-}
-
-// One group after the other, while a whole one is left.
-pub fn draw_a(p: Numbers, stream: &[u8], out: &mut [u32]) -> Sampled
+// One whole group after the other, and one below q goes to the next place. `chunks_exact` was tried: its parts have no room for a window of four
+// bytes, and where the set is not known when this is compiled, a took five times as long, and s twice.
+pub fn draw_a(p: Numbers, stream: &[u8], out: &mut [u32]) -> Result<(), Dry>
     requires good { Good p }
     requires out_len { length out.old ≡ p.n }
     ensures { Is (drawn_a p stream.now) result out.new }
 {
-    buffers::clear_numbers(out);
-    let mut found: usize = 0;
-    let mut at: usize = 0;
-    while found < p.n {
-        if stream.len() - at < p.abytes {
-            return Sampled::Dry;
+    buffers::clear(out, 0);
+    let mut found = 0;
+    let mut rest = stream;
+    while let Some(behind) = rest.get(p.abytes..) {
+        let v = low_bits(p, rest);
+        found = crate::keep(v < p.q, v, 0, out, found);
+        if p.n <= found {
+            return Ok(());
         }
-        found = keep(p.q, group(p, &stream[at..]), out, found);
-        at += p.abytes;
+        rest = behind;
     }
-    Sampled::All
+    Err(Dry)
 }

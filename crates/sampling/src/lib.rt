@@ -6,35 +6,38 @@ pub mod element;
 pub mod set1;
 pub mod small;
 
-ghost use Rattle.std.specs.Prelude.{◌≡◌, cond, ◌+◌, ◌^◌, ◌<◌, pos};
+ghost use Rattle.std.specs.Prelude.{◌≡◌, cond, ◌<◌, length, get_or};
+ghost use Rattle.outcome.specs.Outcome.{Is};
+ghost use Rattle.answers.specs.declared.Refusal.TheVariants.{Dry};
+ghost use Rattle.sampling.specs.Inner.{kept};
 
-// Every coefficient was found, or the stream was dry (SPEC 5.1).
+use answers::Refusal;
+
+// The stream ended before every coefficient was found (SPEC 5.1).
 #[derive(Clone, Copy)]
-pub enum Sampled {
-    All,
-    Dry,
+pub struct Dry;
+
+impl From<Dry> for Refusal {
+    ghost from_gives = { λ dry why. why ≡ Dry };
+
+    fn from(_dry: Dry) -> Self {
+        Refusal::Dry
+    }
 }
 
-// Whether a draw passes is chance, so a jump on it would often be guessed wrong. Each choice below is one value or another, which takes no jump,
-// and stands in a function of its own so that the compiler keeps it so.
-
-// What is written for a draw: one that does not pass leaves 0.
-fn taken(passes: bool, x: u32) -> u32
-    ensures { result ≡ cond passes x 0 }
+// Whether a draw passes is chance, so a jump on it would often be guessed wrong. What is written for it is one value or another, which takes no
+// jump, and stands in a function of its own so that the compiler keeps it so.
+fn taken<T: Copy>(passes: bool, x: T, zero: T) -> T
+    ensures { result ≡ cond passes x zero }
 {
-    if passes { x } else { 0 }
+    if passes { x } else { zero }
 }
 
-fn taken_signed(passes: bool, x: i32) -> i32
-    ensures { result ≡ cond passes x (pos 0) }
+// A draw that passes goes to the next place, which holds 0. The answer is how many were found with it.
+fn keep<T: Copy>(passes: bool, x: T, zero: T, out: &mut [T], found: usize) -> usize
+    requires { (found < length out.old) × (get_or out.old found zero ≡ zero) }
+    ensures { Is (kept passes x found out.old) result out.new }
 {
-    if passes { x } else { 0 }
-}
-
-// How many were found after a draw.
-fn counted(passes: bool, found: usize) -> usize
-    requires { found < 2 ^ 63 }
-    ensures { result ≡ cond passes (found + 1) found }
-{
-    if passes { found + 1 } else { found }
+    out[found] = taken(passes, x, zero);
+    found + usize::from(passes)
 }

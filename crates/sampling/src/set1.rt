@@ -1,56 +1,57 @@
 // The samplers of set 1 as calls (SPEC 5.6).
+ghost use Rattle.std.specs.Prelude.{◌≡◌, ◌≢◌, length, MatchResult};
 ghost use Rattle.outcome.specs.Outcome.{Is};
 ghost use Rattle.sets.specs.Set.{set1};
+ghost use Rattle.answers.specs.declared.Buffer.TheVariants.{Coefficients};
+ghost use Rattle.answers.specs.declared.Refusal.TheVariants.{Length};
 ghost use Rattle.answers.specs.Refusals.{report_of};
 ghost use Rattle.answers.specs.Result.{outcome};
 ghost use Rattle.sampling.specs.Samplers.{sample_a, sample_s, challenge};
 ghost use Rattle.sampling.specs.Calls.{sample_call};
 
-use crate::Sampled;
-use answers::{Answer, Buffer, Refusal};
+use answers::{Buffer, Refusal};
 use sets::set1::Set1;
 
-// a, in 0..q-1 (SPEC 5.2).
-pub fn sample_a(stream: &[u8], out: &mut [i32]) -> Answer
-    ensures { Is (outcome (sample_call set1 sample_a stream.now out.old) out.old) (report_of result) out.new }
+// The output takes the coefficients of set 1.
+fn takes(out: &[i32]) -> Result<(), Refusal>
+    ensures { MatchResult result (λ _. length out.now ≡ set1.n) (λ why. (length out.now ≢ set1.n) × (why ≡ Length Coefficients)) }
 {
     if out.len() != Set1::N {
-        return Answer::Refused(Refusal::Length(Buffer::Coefficients));
+        return Err(Refusal::Length(Buffer::Coefficients));
     }
-    let mut a = [0u32; Set1::N];
-    let Sampled::All = crate::element::draw_a(Set1::numbers(), stream, &mut a) else {
-        return Answer::Refused(Refusal::Dry);
-    };
-    buffers::convert::store_plain(&a, out);
-    Answer::Done
+    Ok(())
 }
 
-// s, in -1..1 (SPEC 5.3).
-pub fn sample_s(stream: &[u8], out: &mut [i32]) -> Answer
+// a, in 0..q-1 (SPEC 5.2).
+pub fn sample_a(stream: &[u8], out: &mut [i32]) -> Result<(), Refusal>
+    ensures { Is (outcome (sample_call set1 sample_a stream.now out.old) out.old) (report_of result) out.new }
+{
+    takes(out)?;
+    let mut a = [0u32; Set1::N];
+    crate::element::draw_a(Set1::numbers(), stream, &mut a)?;
+    buffers::convert::store_plain(&a, out);
+    Ok(())
+}
+
+// s, in -1..1 (SPEC 5.3). This call and the next differ in the sampler alone. One function over it, `F: Fn`, would need the sampler's definition as a
+// ghost value and two clauses on `F.pre` and `F.post`, which is more than the lines that it saves.
+pub fn sample_s(stream: &[u8], out: &mut [i32]) -> Result<(), Refusal>
     ensures { Is (outcome (sample_call set1 sample_s stream.now out.old) out.old) (report_of result) out.new }
 {
-    if out.len() != Set1::N {
-        return Answer::Refused(Refusal::Length(Buffer::Coefficients));
-    }
+    takes(out)?;
     let mut s = [0i32; Set1::N];
-    let Sampled::All = crate::small::draw_s(Set1::numbers(), stream, &mut s) else {
-        return Answer::Refused(Refusal::Dry);
-    };
-    buffers::copy_signed(out, &s);
-    Answer::Done
+    crate::small::draw_s(Set1::numbers(), stream, &mut s)?;
+    buffers::copy(out, &s);
+    Ok(())
 }
 
 // The challenge: 25 coefficients are 1 or -1, the rest 0 (SPEC 5.5).
-pub fn sample_challenge(stream: &[u8], out: &mut [i32]) -> Answer
+pub fn sample_challenge(stream: &[u8], out: &mut [i32]) -> Result<(), Refusal>
     ensures { Is (outcome (sample_call set1 challenge stream.now out.old) out.old) (report_of result) out.new }
 {
-    if out.len() != Set1::N {
-        return Answer::Refused(Refusal::Length(Buffer::Coefficients));
-    }
+    takes(out)?;
     let mut c = [0i32; Set1::N];
-    let Sampled::All = crate::challenge::draw_challenge(Set1::numbers(), stream, &mut c) else {
-        return Answer::Refused(Refusal::Dry);
-    };
-    buffers::copy_signed(out, &c);
-    Answer::Done
+    crate::challenge::draw_challenge(Set1::numbers(), stream, &mut c)?;
+    buffers::copy(out, &c);
+    Ok(())
 }

@@ -1,6 +1,6 @@
 -- Demand 3 of the code: over the contracts of make_keys, sign and check as the checker reads them.
--- Any two seeds from which make_keys answers Done, any message, any limit, any buffers: if sign, given that secret key, answers Signed, then check, given
--- that public key, that signature and that message, answers Done; if sign answers that its tries ran out, then each of those tries fails for one of the
+-- Any two seeds from which make_keys answers `Ok`, any message, any limit, any buffers: if sign, given that secret key, answers `Ok`, then check, given
+-- that public key, that signature and that message, answers `Ok`; if sign answers that its tries ran out, then each of those tries fails for one of the
 -- reasons 1 to 5; and sign answers nothing else where its lengths and its limit are right.
 use mathlib.Core.Path.{◌≡◌, sym, ap, subst, ◌∙◌}
 use mathlib.Core.Logic.{◌⊎◌, ⊎_elim, inl, inr}
@@ -16,13 +16,11 @@ use lib.ListN.{length}
 use Rattle.outcome.specs.Outcome.{Is}
 use Rattle.sets.specs.Set.{set1, message_max, try_max}
 use Rattle.answers.specs.declared.Refusal.{Refusal}
+use Rattle.answers.specs.declared.NotSigned.{NotSigned}
 use Rattle.answers.specs.declared.Refusal.TheVariants.{Length, LongMessage, Spent}
 use Rattle.answers.specs.declared.Buffer.TheVariants.{SecretKey as SecretBuffer, Signature as SignatureBuffer}
-use Rattle.answers.specs.declared.Answer.{Answer}
-use Rattle.answers.specs.declared.Answer.TheVariants.{Done, Refused}
-use Rattle.answers.specs.declared.Signing.{Signing}
-use Rattle.answers.specs.declared.Signing.TheVariants.{Signed as SignedAfter, Refused as RefusedAfter}
-use Rattle.answers.specs.Refusals.{report_of, signing_report}
+use Rattle.std.specs.Prelude.{Ok, Err}
+use Rattle.answers.specs.Refusals.{Answer, Signing, report_of, signing_report}
 use Rattle.answers.specs.Result.{Result, done, refused, told, outcome}
 use Rattle.answers.proofs.Results.{need_inv}
 use Rattle.answers.proofs.Reports.{report_one, signing_one}
@@ -41,35 +39,36 @@ use Rattle.set1.proofs.check.Reads as checking
 use Rattle.set1.proofs.check.Kinds as checking_kinds
 
 -- ---- what an answer says of the definition's result
-clash : {A : Type 0} (r : Refusal) → Done ≡ Refused r → A
+clash : {A : Type 0} (r : Refusal) → ◌≡◌ {A = Answer} (Ok tt) (Err r) → A
 clash r e = let z : ◌≡◌ {A = ℕ} 0 1 = cc in absurd (omega arith)
 
-made_keys : (m : Result Pair) (old new : Pair) → Is (outcome m old) (report_of Done) new → m ≡ done new
+made_keys : (m : Result Pair) (old new : Pair) → Is (outcome m old) (report_of (Ok tt)) new → m ≡ done new
 made_keys (done p) old new i = ap done (sym i.leaves)
-made_keys (refused r) old new i = clash r (report_one Done (Refused r) i.answers)
+made_keys (refused r) old new i = clash r (report_one (Ok tt) (Err r) i.answers)
 
-signed_not : {A : Type 0} (n k : ℕ) (r : Refusal) → SignedAfter n ≡ RefusedAfter r k → A
+signed_not : {A : Type 0} (n k : ℕ) (r : Refusal) → ◌≡◌ {A = Signing} (Ok n) (Err (record { why = r; tries = k })) → A
 signed_not n k r e = let z : ◌≡◌ {A = ℕ} 0 1 = cc in absurd (omega arith)
 
-signed_one : (limit n : ℕ) (m : Result Signed) (old new : List ℕ) → Is (sign_outcome limit m old) (signing_report (SignedAfter n)) new
+signed_one : (limit n : ℕ) (m : Result Signed) (old new : List ℕ) → Is (sign_outcome limit m old) (signing_report (Ok n)) new
     → m ≡ done record { count = n; bytes = new }
 signed_one limit n (done s) old new i =
-    let e : SignedAfter n ≡ SignedAfter s.count = signing_one (SignedAfter n) (SignedAfter s.count) i.answers in
+    let e : ◌≡◌ {A = Signing} (Ok n) (Ok s.count) = signing_one (Ok n) (Ok s.count) i.answers in
     let c : n ≡ s.count = cc in
     λ t. done record { count = sym c t; bytes = sym i.leaves t }
-signed_one limit n (refused r) old new i = signed_not n (count_at limit r) r (signing_one (SignedAfter n) (RefusedAfter r (count_at limit r)) i.answers)
+signed_one limit n (refused r) old new i = signed_not n (count_at limit r) r (signing_one (Ok n) (Err (record { why = r; tries = count_at limit r })) i.answers)
 
-spent_one : (limit n : ℕ) (m : Result Signed) (old new : List ℕ) → Is (sign_outcome limit m old) (signing_report (RefusedAfter Spent n)) new
+spent_one : (limit n : ℕ) (m : Result Signed) (old new : List ℕ) → Is (sign_outcome limit m old) (signing_report (Err (record { why = Spent; tries = n }))) new
     → (m ≡ refused Spent) × (n ≡ limit)
-spent_one limit n (done s) old new i = signed_not s.count n Spent (sym (signing_one (RefusedAfter Spent n) (SignedAfter s.count) i.answers))
+spent_one limit n (done s) old new i = signed_not s.count n Spent (sym (signing_one (Err (record { why = Spent; tries = n })) (Ok s.count) i.answers))
 spent_one limit n (refused r) old new i =
-    let e : RefusedAfter Spent n ≡ RefusedAfter r (count_at limit r) = signing_one (RefusedAfter Spent n) (RefusedAfter r (count_at limit r)) i.answers in
-    let f : Spent ≡ r = cc in
-    let k : n ≡ count_at limit r = cc in
+    let e : ◌≡◌ {A = Signing} (Err (record { why = Spent; tries = n })) (Err (record { why = r; tries = count_at limit r })) = signing_one (Err (record { why = Spent; tries = n })) (Err (record { why = r; tries = count_at limit r })) i.answers in
+    let g : ◌≡◌ {A = NotSigned} (record { why = Spent; tries = n }) (record { why = r; tries = count_at limit r }) = cc in
+    let f : Spent ≡ r = ap (λ (x : NotSigned). x.why) g in
+    let k : n ≡ count_at limit r = ap (λ (x : NotSigned). x.tries) g in
     (ap refused (sym f), k ∙ ap (count_at limit) (sym f))
 
-told_done : (m : Result (Unit {0})) → m ≡ done tt → (a : Answer) → report_of a ≡ told m → a ≡ Done
-told_done m e a t = report_one a Done (t ∙ ap told e)
+told_done : (m : Result (Unit {0})) → m ≡ done tt → (a : Answer) → report_of a ≡ told m → a ≡ Ok tt
+told_done m e a t = report_one a (Ok tt) (t ∙ ap told e)
 
 -- a message that was signed is within the limit
 within_limit : (sk M : List ℕ) (limit : ℕ) (out : List ℕ) (s : Signed) → sign set1 shake256 sk M limit out ≡ done s → length M ≤ message_max
@@ -82,9 +81,9 @@ within_limit sk M limit out s e =
 
 -- ---- the three calls
 module _
-    -- make_keys was called and answered Done
+    -- make_keys was called and answered `Ok`
     (κ₁ : Lfts 4) (a₁ : Dens κ₁ make_keys_kinds.ps) (s₁ : AtExit (ended_of 4 make_keys_kinds.ps make_keys_kinds.r) κ₁)
-    (made : make_keys.Post κ₁ a₁ Done s₁)
+    (made : make_keys.Post κ₁ a₁ (Ok tt) s₁)
     -- sign was called with that secret key
     (κ₂ : Lfts 3) (a₂ : Dens κ₂ signing_kinds.ps) (r₂ : Signing) (s₂ : AtExit (ended_of 3 signing_kinds.ps signing_kinds.r) κ₂)
     (signed : signing.Post κ₂ a₂ r₂ s₂) (key : a₂.0.now ≡ s₁.1.1.1.0.now) where
@@ -113,11 +112,11 @@ module _
   at_key m e = ap (λ (k : List ℕ). sign set1 shake256 k message limit a₂.1.1.1.0.now) (sym key) ∙ e
 
   -- what was signed is accepted
-  pub signed_is_accepted : (n : ℕ) → r₂ ≡ SignedAfter n
+  pub signed_is_accepted : (n : ℕ) → r₂ ≡ Ok n
       → (κ₃ : Lfts 3) (a₃ : Dens κ₃ checking_kinds.ps) (r₃ : Answer) (s₃ : AtExit (ended_of 3 checking_kinds.ps checking_kinds.r) κ₃)
       → checking.Post κ₃ a₃ r₃ s₃
       → a₃.0.now ≡ s₁.1.1.0.now → a₃.1.0.now ≡ s₂.1.1.1.0.now → a₃.1.1.0.now ≡ a₂.1.0.now
-      → r₃ ≡ Done
+      → r₃ ≡ Ok tt
   signed_is_accepted n e κ₃ a₃ r₃ s₃ checked public signature same =
       let i = subst (λ (r : Signing). signing.Post κ₂ a₂ r s₂) e signed in
       let m = at_key _ (signed_one limit n (sign set1 shake256 a₂.0.now message limit a₂.1.1.1.0.now) a₂.1.1.1.0.now s₂.1.1.1.0.now i) in
@@ -125,7 +124,7 @@ module _
       told_done (check set1 shake256 a₃.0.now a₃.1.0.now a₃.1.1.0.now) ((λ t. check set1 shake256 (public t) (signature t) (same t)) ∙ c) r₃ checked
 
   -- and if the tries ran out, each of them fails
-  pub spent_all_fail : (n : ℕ) → r₂ ≡ RefusedAfter Spent n
+  pub spent_all_fail : (n : ℕ) → r₂ ≡ Err (record { why = Spent; tries = n })
       → (n ≡ a₂.1.1.0) × AllFail set1 shake256 s₁.1.1.1.0.now a₂.1.0.now (rho_of set1 shake256 s₁.1.1.1.0.now a₂.1.0.now) a₂.1.1.0
   spent_all_fail n e =
       let i = subst (λ (r : Signing). signing.Post κ₂ a₂ r s₂) e signed in
@@ -134,11 +133,11 @@ module _
 
   -- there is no third answer
   pub signs_or_spent : length a₂.1.1.1.0.now ≡ total (signature_parts set1) → length a₂.1.0.now ≤ message_max → 1 ≤ a₂.1.1.0 → a₂.1.1.0 ≤ try_max
-      → ((n : ℕ) × (r₂ ≡ SignedAfter n)) ⊎ (r₂ ≡ RefusedAfter Spent a₂.1.1.0)
+      → ((n : ℕ) × (r₂ ≡ Ok n)) ⊎ (r₂ ≡ Err (record { why = Spent; tries = a₂.1.1.0 }))
   signs_or_spent o m l u =
       ⊎_elim
-      (λ s. inl (s.0.count, answer (SignedAfter s.0.count) (ap (sign_told limit) (at_own _ s.1))))
-      (λ e. inr (answer (RefusedAfter Spent limit) (ap (sign_told limit) (at_own _ e))))
+      (λ s. inl (s.0.count, answer (Ok s.0.count) (ap (sign_told limit) (at_own _ s.1))))
+      (λ e. inr (answer (Err (record { why = Spent; tries = limit })) (ap (sign_told limit) (at_own _ e))))
       (demand3_set1.answers keys message limit a₂.1.1.1.0.now o m l u)
     where
       at_own : (x : Result Signed) → sign set1 shake256 pair.secret message limit a₂.1.1.1.0.now ≡ x

@@ -1,4 +1,6 @@
-// The numbers of a set as one value, which inner functions take (SPEC 1.1). A set's own type hands it out.
+// The numbers of a set as one value, which inner functions take (SPEC 1.1). A set's own type hands it out. That they meet the conditions (Good,
+// Trinomial) is a clause of each function and no fact of a type: the definitions take this record as it is, and so a type round it would give
+// each function two names for its set.
 
 // The rings that are known (SPEC 2.4): X^n = X^(n/2) - 1, and X^n = X + 1.
 #[derive(Clone, Copy)]

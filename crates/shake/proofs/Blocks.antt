@@ -1,123 +1,115 @@
 -- Laws of absorbing whole blocks, with what is left of a message kept for later. Assumes nothing.
-use Prim.Native.Nat.{ℕ, zero, suc, ◌+◌, ◌*◌, ◌/◌, ◌%◌, ◌-◌, ◌≤◌, ◌<◌}
-use mathlib.Core.Path.{◌≡◌, refl, ◌∙◌, sym, ap}
-use mathlib.Core.List.{List, [], ◌++◌}
-use native.Mathlib.Omega.{arith}
-use native.Mathlib.Nat.{zero-add, suc-add}
-use lib.ListN.{take, drop, length, length-append, length-drop, take-append-drop}
-use lib.Seq.{take-append-le, drop-append-le, drop-drop, drop-length, length-take-le}
+use Rattle.std.proofs.Common.{◌≡◌, ℕ, zero, suc, ◌+◌, ◌*◌, ◌/◌, ◌%◌, ◌-◌, ◌≤◌, ◌<◌, List, [], ◌∷◌, ◌++◌, length, take, drop, replicate, refl, arith, length-append, length-drop, append_assoc, take_all, drop-drop}
+use Rattle.std.proofs.Math.Nat.{zero-add, suc-add}
+use Rattle.std.proofs.lemmas.List.{take-append-le, drop-append-le, drop_all, length-replicate}
+use Rattle.std.specs.List.{fold}
+use Rattle.std.specs.Simd.{first_chunks}
 use Rattle.keccak.specs.Keccak.{keccak}
-use Rattle.shake.specs.Shake.{absorbed, xored, pad, padded}
-use Rattle.shake.specs.Inner.{block, whole, left}
+use Rattle.shake.specs.Shake.{absorbed, xored, pad, padded, zeros}
+use Rattle.shake.specs.Inner.{whole, left, taken}
 
 -- n blocks do not depend on what follows them
-pub absorbed_append : (n : ℕ) (p q : List ℕ) (s : List (List ℕ)) → 136 * n ≤ length p → absorbed n (p ++ q) s ≡ absorbed n p s
+absorbed-append : (n : ℕ) (p q : List ℕ) (s : List (List ℕ)) → 136 * n ≤ length p → absorbed n (p ++ q) s ≡ absorbed n p s
 unfolding absorbed
-absorbed_append zero p q s h = refl
-absorbed_append (suc n) p q s h =
-    let t = take-append-le 136 p q (omega arith) in
-    let d = drop-append-le 136 p q (omega arith) in
-    ap (λ (l : List ℕ). absorbed n (drop 136 (p ++ q)) (keccak (xored s l))) t ∙
-    ap (λ (l : List ℕ). absorbed n l (keccak (xored s (take 136 p)))) d ∙
-    absorbed_append n (drop 136 p) q (keccak (xored s (take 136 p))) (omega (arith, length-drop 136 p))
+absorbed-append zero p q s h = refl
+absorbed-append (suc n) p q s h =
+    let block : 136 ≤ length p = omega arith in
+    rw (take-append-le 136 p q block, drop-append-le 136 p q block) (absorbed-append n (drop 136 p) q (keccak (xored s (take 136 p))) (omega (arith, length-drop 136 p)))
 
-pub absorbed_take : (n k : ℕ) (p : List ℕ) (s : List (List ℕ)) → 136 * n ≤ k → k ≤ length p → absorbed n (take k p) s ≡ absorbed n p s
-absorbed_take n k p s h hk =
-    sym (absorbed_append n (take k p) (drop k p) s (omega (arith, length-take-le k p hk))) ∙
-    ap (λ (l : List ℕ). absorbed n l s) (take-append-drop k p)
-
-pub absorbed_add : (n k : ℕ) (p : List ℕ) (s : List (List ℕ)) → absorbed (n + k) p s ≡ absorbed k (drop (n * 136) p) (absorbed n p s)
+absorbed-add : (n k : ℕ) (p : List ℕ) (s : List (List ℕ)) → absorbed (n + k) p s ≡ absorbed k (drop (n * 136) p) (absorbed n p s)
 unfolding absorbed
-absorbed_add zero k p s = ap (λ (n : ℕ). absorbed n p s) (zero-add k)
-absorbed_add (suc n) k p s =
+absorbed-add zero k p s = rw zero-add refl
+absorbed-add (suc n) k p s =
     let e : 136 + n * 136 ≡ suc n * 136 = omega arith in
-    ap (λ (j : ℕ). absorbed j p s) (suc-add n k) ∙ absorbed_add n k (drop 136 p) (keccak (xored s (take 136 p))) ∙
-    ap (λ (l : List ℕ). absorbed k l (absorbed n (drop 136 p) (keccak (xored s (take 136 p))))) (drop-drop (n * 136) 136 p ∙ ap (λ (j : ℕ). drop j p) e)
-
--- the block at i, and those after it
-pub next_block : (m : List ℕ) (i : ℕ) (s : List (List ℕ)) → i + 136 ≤ length m
-    → absorbed ((length m - i) / 136) (drop i m) s ≡ absorbed ((length m - (i + 136)) / 136) (drop (i + 136) m) (keccak (xored s (block m i)))
-unfolding absorbed
-next_block m i s h =
-    let e : (length m - i) / 136 ≡ suc ((length m - (i + 136)) / 136) = omega arith in
-    ap (λ (n : ℕ). absorbed n (drop i m) s) e ∙
-    ap (λ (l : List ℕ). absorbed ((length m - (i + 136)) / 136) l (keccak (xored s (block m i)))) (drop-drop 136 i m)
-
-pub no_block : (n : ℕ) (m : List ℕ) (s : List (List ℕ)) → n ≡ 0 → absorbed n m s ≡ s
-unfolding absorbed
-no_block n m s e = ap (λ (k : ℕ). absorbed k m s) e
+    rw (suc-add n k, absorbed-add n k (drop 136 p) (keccak (xored s (take 136 p))), drop-drop (n * 136) 136 p, e) refl
 
 -- ---- a message in two parts
 
-pub length_left : (p : List ℕ) → length (left p) ≡ length p % 136
+length-left : (p : List ℕ) → length (left p) ≡ length p % 136
 unfolding left
-length_left p = length-drop (length p / 136 * 136) p ∙ omega arith
+length-left p = omega (arith, length-drop (length p / 136 * 136) p)
 
 module _ (p q : List ℕ) where
   blocks_joined : length (p ++ q) / 136 ≡ length p / 136 + length (left p ++ q) / 136
-  blocks_joined = omega (arith, length-append p q, length-append (left p) q, length_left p)
+  blocks_joined = omega (arith, length-append p q, length-append (left p) q, length-left p)
 
   cut : drop (length p / 136 * 136) (p ++ q) ≡ left p ++ q
   unfolding left
   cut = drop-append-le (length p / 136 * 136) p q (omega arith)
 
-  pub whole_joined : (s : List (List ℕ)) → whole (p ++ q) s ≡ whole (left p ++ q) (whole p s)
+  whole-append : (s : List (List ℕ)) → whole (p ++ q) s ≡ whole (left p ++ q) (whole p s)
   unfolding whole
-  whole_joined s =
-      ap (λ (n : ℕ). absorbed n (p ++ q) s) blocks_joined ∙
-      absorbed_add (length p / 136) (length (left p ++ q) / 136) (p ++ q) s ∙
-      ap (λ (l : List ℕ). absorbed (length (left p ++ q) / 136) l (absorbed (length p / 136) (p ++ q) s)) cut ∙
-      ap (absorbed (length (left p ++ q) / 136) (left p ++ q)) (absorbed_append (length p / 136) p q s (omega arith))
+  whole-append s = rw (blocks_joined, absorbed-add, cut, absorbed-append (length p / 136) p q s (omega arith)) refl
 
-  pub left_joined : left (p ++ q) ≡ left (left p ++ q)
+  left-append : left (p ++ q) ≡ left (left p ++ q)
   unfolding left
-  left_joined =
+  left-append =
       let n = length p / 136 in
       let k = length (left p ++ q) / 136 in
       let e : (n + k) * 136 ≡ n * 136 + k * 136 = omega arith in
-      ap (λ (j : ℕ). drop (j * 136) (p ++ q)) blocks_joined ∙ ap (λ (j : ℕ). drop j (p ++ q)) e ∙
-      sym (drop-drop (k * 136) (n * 136) (p ++ q)) ∙ ap (drop (k * 136)) cut
+      rw (blocks_joined, e, ← drop-drop (k * 136) (n * 136) (p ++ q), cut) refl
+
+pub taken-append : (s : List (List ℕ) × List ℕ) (x y : List ℕ) → taken (taken s x) y ≡ taken s (x ++ y)
+unfolding taken
+taken-append s x y = rw (← append_assoc s.1 x y, whole-append (s.1 ++ x) y s.0, left-append (s.1 ++ x) y) refl
 
 -- ---- less than a block, and a block
 
-pub short : (p : List ℕ) (s : List (List ℕ)) → length p < 136 → (whole p s ≡ s) × (left p ≡ p)
-unfolding whole left absorbed
-short p s h =
-    let e : length p / 136 ≡ 0 = omega arith in
-    (ap (λ (n : ℕ). absorbed n p s) e, ap (λ (n : ℕ). drop (n * 136) p) e)
+pub taken_short : (s : List (List ℕ)) (p m : List ℕ) → length p + length m < 136 → taken (s, p) m ≡ (s, p ++ m)
+unfolding whole left absorbed taken
+taken_short s p m h =
+    let e : length (p ++ m) / 136 ≡ 0 = omega (arith, length-append p m) in
+    rw e refl
 
 none_left : (p : List ℕ) → length p ≡ 136 → left p ≡ []
 unfolding left
-none_left p h =
-    let e : length p / 136 * 136 ≡ length p = omega arith in
-    ap (λ (n : ℕ). drop n p) e ∙ drop-length p
+none_left p h = drop_all (length p / 136 * 136) p (omega arith)
 
-pub whole_one : (p : List ℕ) (s : List (List ℕ)) → length p ≡ 136 → absorbed (length p / 136) p s ≡ absorbed 1 p s
+one_absorbed : (p : List ℕ) (s : List (List ℕ)) → length p ≡ 136 → absorbed 1 p s ≡ keccak (xored s p)
+unfolding absorbed
+one_absorbed p s h = rw (take_all 136 p (omega arith)) refl
+
+whole_one : (p : List ℕ) (s : List (List ℕ)) → length p ≡ 136 → whole p s ≡ keccak (xored s p)
+unfolding whole
 whole_one p s h =
     let e : length p / 136 ≡ 1 = omega arith in
-    ap (λ (k : ℕ). absorbed k p s) e
+    rw e (one_absorbed p s h)
 
-pub one_block : (p q : List ℕ) (s : List (List ℕ)) → length p ≡ 136 → (whole (p ++ q) s ≡ whole q (absorbed 1 p s)) × (left (p ++ q) ≡ left q)
-unfolding whole
-one_block p q s h =
-    let l = none_left p h in (
-      whole_joined p q s ∙ ap (λ (r : List ℕ). whole (r ++ q) (whole p s)) l ∙ ap (whole q) (whole_one p s h),
-      left_joined p q ∙ ap (λ (r : List ℕ). left (r ++ q)) l,
-    )
+-- blocks are absorbed one after the other
+absorbed_chunks : (n : ℕ) (p : List ℕ) (s : List (List ℕ)) → fold (λ s b. keccak (xored s b)) s (first_chunks 136 n p) ≡ absorbed n p s
+unfolding absorbed
+absorbed_chunks zero p s = refl
+absorbed_chunks (suc n) p s = absorbed_chunks n (drop 136 p) (keccak (xored s (take 136 p)))
 
--- the whole blocks of p alone
-pub whole_cut : (p : List ℕ) (s : List (List ℕ)) (n : ℕ) → n ≡ length p / 136 * 136 → absorbed (length (take n p) / 136) (take n p) s ≡ whole p s
-unfolding whole
-whole_cut p s n e =
-    let l : length (take n p) / 136 ≡ length p / 136 = omega (arith, length-take-le n p (omega arith)) in
-    ap (λ (k : ℕ). absorbed k (take n p) s) l ∙ absorbed_take (length p / 136) n p s (omega arith) (omega arith)
+-- p is full with the beginning of m, and whole blocks of m follow it
+pub taken_blocks : (s : List (List ℕ)) (p start rest : List ℕ) {blocks : List (List ℕ)} {last : List ℕ} → length (p ++ start) ≡ 136
+    → blocks ≡ first_chunks 136 (length rest / 136) rest → last ≡ drop (length rest / 136 * 136) rest
+    → taken (s, p) (start ++ rest) ≡ (fold (λ s b. keccak (xored s b)) (keccak (xored s (p ++ start))) blocks, last)
+unfolding whole left taken
+taken_blocks s p start rest h e f =
+    rw (
+      ← append_assoc p start rest,
+      whole-append (p ++ start) rest s,
+      left-append (p ++ start) rest,
+      none_left (p ++ start) h,
+      whole_one (p ++ start) s h,
+      e,
+      absorbed_chunks (length rest / 136) rest (keccak (xored s (p ++ start))),
+      f,
+    ) refl
 
--- ---- the padded message
+-- ---- the whole message
 
-pub padded_last : (m : List ℕ) (s : List (List ℕ)) → absorbed (length m / 136 + 1) (padded m) s ≡ absorbed 1 (left m ++ pad (136 - length m % 136)) (whole m s)
-unfolding padded whole
-padded_last m s =
+pad-length : (q : ℕ) → length (pad q) ≡ q
+pad-length zero = refl
+pad-length (suc zero) = refl
+pad-length (suc (suc k)) = omega (arith, length-append {A = ℕ} (replicate k 0) (0x80 ∷ []), length-replicate {A = ℕ} k 0)
+
+-- the last block, padded, after a message that is taken in
+pub taken-padded : (m : List ℕ) {s : List (List ℕ) × List ℕ} → s ≡ taken (zeros, []) m
+    → keccak (xored s.0 (s.1 ++ pad (136 - length s.1))) ≡ absorbed (length m / 136 + 1) (padded m) zeros
+unfolding taken padded whole
+taken-padded m e =
     let q = pad (136 - length m % 136) in
-    absorbed_add (length m / 136) 1 (m ++ q) s ∙
-    ap (λ (l : List ℕ). absorbed 1 l (absorbed (length m / 136) (m ++ q) s)) (cut m q) ∙
-    ap (absorbed 1 (left m ++ q)) (absorbed_append (length m / 136) m q s (omega arith))
+    let full : length (left m ++ q) ≡ 136 = omega (arith, length-append (left m) q, length-left m, pad-length (136 - length m % 136)) in
+    rw (e, length-left m, absorbed-add (length m / 136) 1 (m ++ q) zeros, cut m q, absorbed-append (length m / 136) m q zeros (omega arith), one_absorbed (left m ++ q) _ full) refl

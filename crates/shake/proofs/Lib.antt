@@ -1,7 +1,8 @@
-mod Put
 mod Words
 mod Blocks
-mod Parts
+mod Held
+mod Padding
+mod Mapped
 mod Squeezed
 pub mod Output
 pub mod Determined

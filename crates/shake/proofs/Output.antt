@@ -1,26 +1,21 @@
 -- What callers ask of SHAKE256's output besides its value: its length, that it is bytes, and that a shorter one is its beginning. Assumes nothing.
-use Prim.Native.Nat.{ℕ, zero, suc, ◌+◌, ◌*◌, ◌/◌, ◌-◌, ◌≤◌, ◌<◌}
-use mathlib.Core.Path.{◌≡◌, refl, ◌∙◌, sym, ap}
-use mathlib.Core.List.{List, [], ◌∷◌, ◌++◌, append_assoc}
-use native.Mathlib.Omega.{arith}
-use native.Mathlib.Nat.{zero-add, suc-add}
-use lib.ListN.{get_or, take, length, length-append}
-use lib.Seq.{length-take-le, take-take, take-append-le}
+use Rattle.std.proofs.Common.{◌≡◌, ℕ, zero, suc, ◌+◌, ◌*◌, ◌/◌, ◌-◌, ◌≤◌, ◌<◌, List, [], ◌∷◌, ◌++◌, get_or, take, length, refl, ap, ◌∙◌, arith, append_assoc, length-append, length-take-le, take-take}
+use Rattle.std.proofs.Math.Nat.{zero-add, suc-add}
+use Rattle.std.proofs.lemmas.List.{take-append-le}
 use Rattle.keccak.specs.Keccak.{keccak}
 use Rattle.shake.specs.Shake.{bytes, absorbed, squeezed, padded, zeros, shake256}
-use Rattle.shake.proofs.Squeezed.{length_bytes}
+use Rattle.shake.proofs.Squeezed.{length-bytes}
 
-length_squeezed : (n : ℕ) (s : List (List ℕ)) → length (squeezed n s) ≡ 136 * n
+length-squeezed : (n : ℕ) (s : List (List ℕ)) → length (squeezed n s) ≡ 136 * n
 unfolding squeezed
-length_squeezed zero s = refl
-length_squeezed (suc n) s =
-    length-append (bytes 136 0 s) (squeezed n (keccak s)) ∙ omega (arith, length_bytes 136 0 s, length_squeezed n (keccak s))
+length-squeezed zero s = refl
+length-squeezed (suc n) s = omega (arith, length-append (bytes 136 0 s) (squeezed n (keccak s)), length-bytes 136 0 s, length-squeezed n (keccak s))
 
 pub length_shake256 : (m : List ℕ) (n : ℕ) → length (shake256 m n) ≡ n
 unfolding shake256
 length_shake256 m n =
     let s = absorbed (length m / 136 + 1) (padded m) zeros in
-    length-take-le n (squeezed (n / 136 + 1) s) (omega (arith, length_squeezed (n / 136 + 1) s))
+    length-take-le n (squeezed (n / 136 + 1) s) (omega (arith, length-squeezed (n / 136 + 1) s))
 
 -- ---- bytes
 
@@ -56,20 +51,18 @@ after : ℕ → List (List ℕ) → List (List ℕ)
 after zero s = s
 after (suc n) s = after n (keccak s)
 
-squeezed_add : (n k : ℕ) (s : List (List ℕ)) → squeezed (n + k) s ≡ squeezed n s ++ squeezed k (after n s)
+squeezed-add : (n k : ℕ) (s : List (List ℕ)) → squeezed (n + k) s ≡ squeezed n s ++ squeezed k (after n s)
 unfolding squeezed after
-squeezed_add zero k s = ap (λ (j : ℕ). squeezed j s) (zero-add k)
-squeezed_add (suc n) k s =
-    ap (λ (j : ℕ). squeezed j s) (suc-add n k) ∙ ap (λ (l : List ℕ). bytes 136 0 s ++ l) (squeezed_add n k (keccak s)) ∙
-    sym (append_assoc (bytes 136 0 s) (squeezed n (keccak s)) (squeezed k (after n (keccak s))))
+squeezed-add zero k s = rw zero-add refl
+squeezed-add (suc n) k s = rw (suc-add n k, squeezed-add n k (keccak s), append_assoc) refl
 
-more_squeezed : (n k : ℕ) (s : List (List ℕ)) (j : ℕ) → j ≤ 136 * n → n ≤ k → take j (squeezed k s) ≡ take j (squeezed n s)
-more_squeezed n k s j h hk =
+take-squeezed : (n k : ℕ) (s : List (List ℕ)) (j : ℕ) → j ≤ 136 * n → n ≤ k → take j (squeezed k s) ≡ take j (squeezed n s)
+take-squeezed n k s j h hk =
     let e : k ≡ n + (k - n) = omega arith in
-    ap (λ (i : ℕ). take j (squeezed i s)) e ∙ ap (take j) (squeezed_add n (k - n) s) ∙
-    take-append-le j (squeezed n s) (squeezed (k - n) (after n s)) (omega (arith, length_squeezed n s))
+    ap (λ (i : ℕ). take j (squeezed i s)) e ∙ ap (take j) (squeezed-add n (k - n) s) ∙
+    take-append-le j (squeezed n s) (squeezed (k - n) (after n s)) (omega (arith, length-squeezed n s))
 
 pub prefix_shake256 : (m : List ℕ) (n k : ℕ) → k ≤ n → take k (shake256 m n) ≡ shake256 m k
 unfolding shake256
 prefix_shake256 m n k h =
-    take-take k n _ h ∙ more_squeezed (k / 136 + 1) (n / 136 + 1) _ k (omega arith) (omega arith)
+    take-take k n _ h ∙ take-squeezed (k / 136 + 1) (n / 136 + 1) _ k (omega arith) (omega arith)

@@ -1,119 +1,107 @@
 // Absorbing, a block at a time.
-ghost use Rattle.std.specs.Prelude.{◌≡◌, ◌++◌, ◌+◌, ◌-◌, ◌/◌, ◌%◌, ◌<◌, ◌≤◌, length, take, get_or};
-ghost use Rattle.shake.specs.Shake.{word, xored, absorbed, pad};
-ghost use Rattle.shake.specs.Inner.{block, xored_row, Taken};
+ghost use Rattle.std.specs.Prelude.{◌≡◌, ℕ, ◌-◌, ◌*◌, ◌<◌, List, [], ◌++◌, fold, length, take};
+ghost use Rattle.keccak.specs.Keccak.{row, keccak};
+ghost use Rattle.shake.specs.Shake.{rate, word, xored, pad, zeros};
+ghost use Rattle.shake.specs.Inner.{mixed, taken};
 
-use crate::{LAST, RATE};
+use crate::{RATE, State};
+use std::array;
+use std::marker::Model;
 
-// The byte at `i` of `m`, as part of a lane.
-fn byte(m: &[u8], i: usize) -> u64
-    requires { i < length m.now }
-    ensures { (result ≡ get_or m.now i 0) × (result < 256) }
+// Lane `i` of a block, and 0 after its last one.
+fn lane(block: &[u8; RATE], i: usize) -> u64
+    ensures { result ≡ word block.now (8 * i) }
 {
-    m[i] as u64
+    let (lanes, _) = block.as_chunks::<8>();
+    lanes.get(i).map_or(0, |bytes| u64::from_le_bytes(*bytes))
 }
 
-// The lane whose bytes start at `i` of `m`. The compiler reads this sum at once.
-fn word(m: &[u8], i: usize) -> u64
-    requires { i + 8 ≤ length m.now }
-    ensures { result ≡ word m.now i }
+// Row `y` of a state with a block xored in, where the state's own is `r`.
+fn row(r: [u64; 5], block: &[u8; RATE], y: usize) -> [u64; 5]
+    requires { y < 5 }
+    ensures { result ≡ row (mixed r block.now) y }
 {
-    byte(m, i)
-        + byte(m, i + 1) * 0x100
-        + byte(m, i + 2) * 0x10000
-        + byte(m, i + 3) * 0x1000000
-        + byte(m, i + 4) * 0x100000000
-        + byte(m, i + 5) * 0x10000000000
-        + byte(m, i + 6) * 0x1000000000000
-        + byte(m, i + 7) * 0x100000000000000
+    array::from_fn(|x| r[x] ^ lane(block, 5 * y + x))
 }
 
-// A row of the state with 40 bytes of `m`, from `i` on, xored in.
-fn row(r: [u64; 5], m: &[u8], i: usize) -> [u64; 5]
-    requires { i + 40 ≤ length m.now }
-    ensures { result ≡ xored_row r m.now i }
+// The state with a block xored in. The rows stand written out: a closure for `array::from_fn` would need clauses of its own.
+#[tactic(auto, unfolding(crate::specs::Shake::xored))]
+fn xored(a: State, block: &[u8; RATE]) -> State
+    ensures { result ≡ xored a block.now }
 {
     [
-        r[0] ^ word(m, i),
-        r[1] ^ word(m, i + 8),
-        r[2] ^ word(m, i + 16),
-        r[3] ^ word(m, i + 24),
-        r[4] ^ word(m, i + 32),
+        row(a[0], block, 0),
+        row(a[1], block, 1),
+        row(a[2], block, 2),
+        row(a[3], block, 3),
+        row(a[4], block, 4),
     ]
 }
 
-// The state with the block at `i` of `m` xored in.
-fn xored(a: [[u64; 5]; 5], m: &[u8], i: usize) -> [[u64; 5]; 5]
-    requires { i + 136 ≤ length m.now }
-    ensures { result ≡ xored a (block m.now i) }
+// The state after the blocks.
+fn absorbed(mut s: State, blocks: &[[u8; RATE]]) -> State
+    ensures { result ≡ fold (λ s p. keccak (xored s p)) s blocks.now }
 {
-    let r0 = a[0];
-    let r1 = a[1];
-    let r2 = a[2];
-    let r3 = a[3];
-    let r4 = a[4];
-    [
-        row(r0, m, i),
-        row(r1, m, i + 40),
-        row(r2, m, i + 80),
-        [
-            r3[0] ^ word(m, i + 120),
-            r3[1] ^ word(m, i + 128),
-            r3[2],
-            r3[3],
-            r3[4],
-        ],
-        [r4[0], r4[1], r4[2], r4[3], r4[4]],
-    ]
+    for block in blocks {
+        s = keccak::permute(xored(s, block));
+    }
+    s
 }
 
-// The state after the blocks of `m`. Between two blocks it is kept as it is before the permutation, so that the next
-// block is xored in on the way from the permutation's result, with no other copy of the state.
-pub(crate) fn blocks(a: [[u64; 5]; 5], m: &[u8]) -> [[u64; 5]; 5]
-    requires { (136 ≤ length m.now) × (length m.now % 136 ≡ 0) }
-    ensures { result ≡ absorbed (length m.now / 136) m.now a }
-{
-    let mut s = xored(a, m, 0);
-    let mut i: usize = RATE;
-    while i < m.len() {
-        let t = keccak::permute(s);
-        let u = xored(t, m, i);
-        s = u;
-        i += RATE;
-    }
-    keccak::permute(s)
+// A message that is being absorbed: the state after its whole blocks, and the bytes after those, the first `len` of `held`.
+#[derive(Drop)]
+pub(crate) struct Sponge {
+    state: State,
+    held: [u8; RATE],
+    len: usize,
 }
 
-// Takes in `m` after the `pos` bytes that `held` has of a block: the state after every whole block, and in `held` what is
-// left of the last one.
-pub(crate) fn part(a: [[u64; 5]; 5], held: &mut [u8], pos: usize, m: &[u8]) -> [[u64; 5]; 5]
-    requires { (length held.old ≡ 136) × (pos < 136) }
-    ensures { Taken (take pos held.old ++ m.now) a result held.new }
-{
-    let room = RATE - pos;
-    if m.len() < room {
-        crate::copy(held, pos, m);
-        return a;
-    }
-    crate::copy(held, pos, &m[..room]);
-    let s = blocks(a, held);
-    let n = (m.len() - room) / RATE * RATE;
-    let end = room + n;
-    crate::copy(held, 0, &m[end..]);
-    if n == 0 {
-        return s;
-    }
-    blocks(s, &m[room..end])
+impl Model for Sponge {
+    ghost Value = { List (List ℕ) × List ℕ };
+
+    ghost view = { λ s. (s.state, take s.len s.held) };
+
+    ghost invariant = { λ s. s.len < rate };
 }
 
-// The suffix and the padding after the `pos` bytes of the last block.
-pub(crate) fn pad(held: &mut [u8], pos: usize)
-    requires { (length held.old ≡ 136) × (pos < 136) }
-    ensures { held.new ≡ take pos held.old ++ pad (136 - pos) }
-{
-    let zeros = [0u8; RATE];
-    let room = RATE - pos;
-    crate::copy(held, pos, &zeros[..room]);
-    held[pos] = 0x1f;
-    held[LAST] = held[LAST] | 0x80;
+impl Sponge {
+    pub(crate) fn new() -> Sponge
+        ensures { result ≡ (zeros, []) }
+    {
+        Sponge {
+            state: [[0; 5]; 5],
+            held: [0; RATE],
+            len: 0,
+        }
+    }
+
+    // Takes in `m`, the next bytes of the message.
+    pub(crate) fn absorb(&mut self, m: &[u8])
+        ensures { self.new ≡ taken self.old m.now }
+    {
+        let Some((start, rest)) = m.split_at_checked(RATE - self.len) else {
+            let end = self.len + m.len();
+            self.held[self.len..end].copy_from_slice(m);
+            self.len = end;
+            return;
+        };
+        self.held[self.len..].copy_from_slice(start);
+        let (blocks, left) = rest.as_chunks::<RATE>();
+        self.state = keccak::permute(xored(self.state, &self.held));
+        self.state = absorbed(self.state, blocks);
+        self.held[..left.len()].copy_from_slice(left);
+        self.len = left.len();
+    }
+
+    // The state with the last block xored in, which ends with the suffix and the padding. No permutation follows here:
+    // squeezing begins with it.
+    pub(crate) fn padded(self) -> State
+        ensures { result ≡ xored self.0 (self.1 ++ pad (rate - length self.1)) }
+    {
+        let mut block = self.held;
+        block[self.len..].fill(0);
+        block[self.len] = 0x1f;
+        block[RATE - 1] |= 0x80;
+        xored(self.state, &block)
+    }
 }

@@ -1,6 +1,6 @@
 -- The laws behind the tries of signing.
 pub mod Stages
 pub mod Norms
-pub mod Judging
 pub mod Trying
+pub mod Judging
 pub mod Determined

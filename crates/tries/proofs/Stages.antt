@@ -1,12 +1,7 @@
 -- The memory of signing from stage to stage: what it holds, and what the next stage adds.
-use mathlib.Core.Path.{◌≡◌, refl, sym, ap, ap₂, subst, ◌∙◌}
-use mathlib.Core.List.{List, [], ◌∷◌, ◌++◌, map}
-use Prim.Native.Nat.{ℕ, suc, ◌≤◌, ◌<◌}
-use native.Mathlib.Omega.{arith}
+use Rattle.std.proofs.Common.{◌≡◌, refl, sym, ap, ap₂, subst, ◌∙◌, List, [], ◌∷◌, ◌++◌, map, ℕ, suc, ◌≤◌, ◌<◌, arith, lit≤, lit<, ℤ, length, get_or, drop}
 use native.Mathlib.Decide.{ℕ_discrete}
-use lib.Dec.{lit≤, lit<}
-use lib.IntN.{ℤ}
-use lib.ListN.{length, get_or, drop, length-map, get_or-append}
+use Rattle.std.proofs.Math.ListN.{length-map, get_or-append}
 use Rattle.sets.specs.Set.{Set}
 use Rattle.sets.specs.Good.{Trinomial}
 use Rattle.residues.specs.Remainder.{residue, signed}

@@ -1,40 +1,33 @@
 -- The tries: what holds at the head of each, and what each end of it gives.
-use mathlib.Core.Path.{◌≡◌, refl, sym, ap, subst, ◌∙◌}
-use mathlib.Core.List.{List, [], map}
-use Prim.Native.Nat.{ℕ, suc, ◌+◌, ◌-◌, ◌≤◌, ◌<◌}
-use native.Mathlib.Nat.{sub-zero}
-use native.Mathlib.Numerals.{add-one}
-use native.Mathlib.Omega.{arith}
-use lib.Dec.{lit≤, lit<}
-use lib.IntN.{ℤ, pos}
-use lib.ListN.{length, get_or}
+use Rattle.std.proofs.Common.{◌≡◌, refl, sym, ap, subst, ◌∙◌, List, [], map, ℕ, suc, ◌+◌, ◌-◌, ◌*◌, ◌≤◌, ◌<◌, add-one, arith, ℤ, pos, length, get_or, ⊎_elim, true, false, Ok, Err, is_err}
+use Rattle.std.proofs.Math.Nat.{sub-zero}
 use Rattle.sets.specs.Set.{Set}
 use Rattle.sets.specs.Good.{Trinomial}
-use Rattle.answers.specs.declared.Refusal.TheVariants.{Spent as SpentTries}
+use Rattle.answers.specs.declared.Refusal.TheVariants.{Spent}
 use Rattle.answers.specs.Result.{done, refused}
 use Rattle.answers.proofs.Results.{not_done}
 use Rattle.residues.specs.Remainder.{residue}
 use Rattle.residues.proofs.Remainders.{residue_small}
 use Rattle.residues.proofs.Order.{below_or}
-use mathlib.Core.Logic.{⊎_elim}
 use Rattle.rounding.specs.Rounding.{make_hint}
 use Rattle.rounding.proofs.Congruent.{q_pos, q_wide}
 use Rattle.rounding.proofs.Hints.{bit}
 use Rattle.shake.specs.Shake.{shake256}
 use Rattle.ring.specs.Ring.{at as coefficient, tab}
 use Rattle.ring.specs.Profile.{mul}
+use Rattle.ring.specs.Inner.{Residues}
 use Rattle.ring.proofs.Lists.{map_tab, tab_cong, at_tab, past_tab}
 use Rattle.sampling.specs.Samplers.{Drawn, drew, dry, drawn}
 use Rattle.streams.specs.Streams.{expand_c}
 use Rattle.sampling.proofs.Drawing.{drawn_done}
 use Rattle.answers.specs.declared.Refusal.{Refusal}
-use Rattle.answers.specs.declared.Answer.{Answer}
-use Rattle.answers.specs.declared.Answer.TheVariants.{Done, Refused}
+use Rattle.answers.specs.Refusals.{Answer}
 use Rattle.workspace.specs.declared.Place.{Place}
 use Rattle.workspace.specs.declared.Place.TheVariants as place
 use Rattle.workspace.specs.Inner.{at, slot, Touched, Holds, Ready, Fills}
+use Rattle.workspace.proofs.Holding.{residues_of}
 use Rattle.scheme.specs.Elements.{plus, negated, highs, make_hints}
-use Rattle.scheme.specs.Try.{Try, passes, fails, Reason, Signer, commit, masked, hints, try}
+use Rattle.scheme.specs.Try.{Try, passes, fails, Reason, ChallengeDry, Signer, commit, masked, hints, try}
 use Rattle.scheme.specs.Sign.{first_pass, or_next}
 use Rattle.tries.specs.Inner.{signer_in, w_of, Through}
 use Rattle.tries.proofs.Stages.{through_kept, through_key, through_less, through_signer, through_ready, stage_c}
@@ -54,7 +47,7 @@ module _ (t : ℕ → Try) (next limit : ℕ) where
       ap (first_pass t next) {x = limit - next} {y = suc (limit - (next + 1))} (omega arith) ∙
       ap (λ (x : Try). or_next x next (first_pass t (suc next) (limit - (next + 1)))) e
 
-  pub first_end : limit ≤ next → first_pass t next (limit - next) ≡ refused SpentTries
+  pub first_end : limit ≤ next → first_pass t next (limit - next) ≡ refused Spent
   unfolding first_pass
   first_end l = ap (first_pass t next) {x = limit - next} {y = 0} (omega arith)
 
@@ -83,52 +76,87 @@ module _ {p : Set} {μ ρ : List ℕ} {limit : ℕ} {work₀ c₀ work c~ : List
   pub trying_key : Through p (signer_in p work₀ μ ρ) next [] place.T0 work
   trying_key = through_key p (signer_in p work₀ μ ρ) 0 next [] [] Y.key
 
-  -- on to the next one
-  pub trying_more : {r : Reason} {more last : List ℕ} (c : List ℤ) (m : Place) → next < limit → try p shake256 (signer_in p work₀ μ ρ) next ≡ fails r → 3 ≤ at m
-      → Through p (signer_in p work₀ μ ρ) next c m more → length more ≡ length work → length last ≡ length c~ → Trying p μ ρ limit work₀ c₀ more last (next + 1)
-  trying_more {r} c m l e f u k b = record {
-    upto = omega arith;
-    long = k ∙ Y.long;
-    long_c = b ∙ Y.long_c;
-    key = through_key p (signer_in p work₀ μ ρ) next 0 c [] (through_less p (signer_in p work₀ μ ρ) next c m place.T0 f u);
-    rest = sym (first_on (try p shake256 (signer_in p work₀ μ ρ)) next limit r l e) ∙ Y.rest;
-  }
-
 -- ---- y, w and c̃ are there
-pub record Begun (p : Set) (S : Signer) (κ : ℕ) (work c~ : List ℕ) : Type 0 where
-  pub held : Through p S κ [] place.W work
+pub record Begun (p : Set) (S : Signer) (κ : ℕ) (work c~ : List ℕ) (size : ℕ) : Type 0 where
+  pub long : length work ≡ size
   pub is : c~ ≡ commit p shake256 S.mu (highs p (w_of p S κ))
+  pub held : Through p S κ [] place.W work
 
-pub begun : (p : Set) (S : Signer) (κ : ℕ) {work more c~ : List ℕ} → Through p S κ [] place.W work → Touched p place.W1 work more
-    → ((w : List ℤ) → Holds p place.W w work → c~ ≡ commit p shake256 S.mu (highs p w)) → Begun p S κ more c~
-begun p S κ u t e = record { held = through_kept p S κ [] place.W t (lit< tt) u; is = e (w_of p S κ) (u place.W (lit≤ tt)) }
+pub begun : {p : Set} {S : Signer} {κ : ℕ} {work more c~ : List ℕ} {size : ℕ} → Through p S κ [] place.W work → Touched p place.W1 work more
+    → ((w : List ℤ) → Holds p place.W w work → c~ ≡ commit p shake256 S.mu (highs p w)) → length work ≡ size → Begun p S κ more c~ size
+begun {p} {S} {κ} u t e l = record { long = t.long ∙ l; is = e (w_of p S κ) (u place.W (omega arith)); held = through_kept p S κ [] place.W t (omega arith) u }
 
--- ---- and the challenge
+-- ---- the challenge is there too, and all places up to k
+pub record Reached (p : Set) (S : Signer) (κ : ℕ) (k : Place) (work c~ : List ℕ) (size : ℕ) : Type 0 where
+  pub long : length work ≡ size
+  pub is : c~ ≡ commit p shake256 S.mu (highs p (w_of p S κ))
+  pub c : List ℤ
+  pub drawn : expand_c p shake256 c~ ≡ drew c
+  pub held : Through p S κ c k work
+
+-- the next places
+abbrev pub reached : {p : Set} {S : Signer} {κ : ℕ} {k : Place} {work more c~ : List ℕ} {size : ℕ} → Reached p S κ k work c~ size → (x : Place)
+    → ((S : Signer) (κ : ℕ) (c : List ℤ) → Through p S κ c k work → Through p S κ c x more) → length more ≡ length work → Reached p S κ x more c~ size
+reached {S = S} {κ = κ} D x f l = record { long = l ∙ D.long; is = D.is; c = D.c; drawn = D.drawn; held = f S κ D.c D.held }
+
+module _ {p : Set} (T : Trinomial p) {S : Signer} {κ : ℕ} {k : Place} {work c~ : List ℕ} {size : ℕ} (D : Reached p S κ k work c~ size) where
+  pub reached_ready : 11 * p.n ≤ size → Ready p k work
+  reached_ready r = through_ready p S T κ D.c k (rw D.long r) D.held
+
+  pub reached_residues : (j : Place) → at j ≤ at k → Residues p (slot p j work)
+  reached_residues j l = residues_of p T.good (D.held j l)
+
+-- what the code has found of an answer
+not_err : (r : Answer) → false ≡ is_err r → r ≡ Ok tt
+not_err (Ok t) e = refl
+not_err (Err why) e = cc
+
+err : (r : Answer) → true ≡ is_err r → (why : Refusal) × (r ≡ Err why)
+err (Ok t) e = absurd (cc)
+err (Err why) e = (why, refl)
+
 drawn_dry : (d : Drawn) (r : Refusal) → drawn d ≡ refused r → d ≡ dry
 drawn_dry dry r e = refl
 drawn_dry (drew c) r e = absurd (not_done r c (sym e))
 
-pub record Drew (p : Set) (S : Signer) (κ : ℕ) (work c~ : List ℕ) (size : ℕ) : Type 0 where
-  pub long : length work ≡ size
-  pub c : List ℤ
-  pub is : expand_c p shake256 c~ ≡ drew c
-  pub held : Through p S κ c place.C work
-
-module _ {p : Set} {S : Signer} {κ : ℕ} {work c~ : List ℕ} (B : Begun p S κ work c~) (more : List ℕ) (r : Answer)
+module _ {p : Set} {S : Signer} {κ : ℕ} {work c~ : List ℕ} {size : ℕ} (B : Begun p S κ work c~ size) {more : List ℕ} {r : Answer}
     (f : Fills p place.C (drawn (expand_c p shake256 c~)) work r more) where
-  pub drew_one : r ≡ Done → Drew p S κ more c~ (length work)
-  drew_one e =
-      let g = f.gives.well e in
+  pub reached_c : false ≡ is_err r → Reached p S κ place.C more c~ size
+  reached_c e =
+      let g = f.gives.well (not_err r e) in
       record {
-        long = f.touched.long;
+        long = f.touched.long ∙ B.long;
+        is = B.is;
         c = g.0;
-        is = drawn_done (expand_c p shake256 c~) g.0 g.1;
+        drawn = drawn_done (expand_c p shake256 c~) g.0 g.1;
         held = stage_c p S κ g.0 B.held f.touched g.2;
       }
 
-  pub drew_none : (why : Refusal) → r ≡ Refused why → (expand_c p shake256 c~ ≡ dry) × Through p S κ [] place.W more × (length more ≡ length work)
-  drew_none why e =
-      (drawn_dry (expand_c p shake256 c~) why (f.gives.ill why e), through_kept p S κ [] place.W f.touched (lit< tt) B.held, f.touched.long)
+  pub is_dry : true ≡ is_err r → expand_c p shake256 c~ ≡ dry
+  is_dry e = let why = err r e in drawn_dry (expand_c p shake256 c~) why.0 (f.gives.ill why.0 why.1)
+
+  pub w_kept : Through p S κ [] place.W more × (length more ≡ size)
+  w_kept = (through_kept p S κ [] place.W f.touched (omega arith) B.held, f.touched.long ∙ B.long)
+
+-- ---- on to the next try
+module _ {p : Set} {μ ρ : List ℕ} {limit : ℕ} {work₀ c₀ work c~ : List ℕ} {next : ℕ} (Y : Trying p μ ρ limit work₀ c₀ work c~ next) (l : next < limit) where
+  trying_from : {r : Reason} {more last : List ℕ} (c : List ℤ) (k : Place) → 3 ≤ at k → Through p (signer_in p work₀ μ ρ) next c k more → length more ≡ length work
+      → try p shake256 (signer_in p work₀ μ ρ) next ≡ fails r → length last ≡ length c~ → Trying p μ ρ limit work₀ c₀ more last (next + 1)
+  trying_from {r} c k f u m e b = record {
+    upto = omega arith;
+    long = m ∙ Y.long;
+    long_c = b ∙ Y.long_c;
+    key = through_key p (signer_in p work₀ μ ρ) next 0 c [] (through_less p (signer_in p work₀ μ ρ) next c k place.T0 f u);
+    rest = sym (first_on (try p shake256 (signer_in p work₀ μ ρ)) next limit r l e) ∙ Y.rest;
+  }
+
+  pub trying_dry : {more last : List ℕ} → Through p (signer_in p work₀ μ ρ) next [] place.W more × (length more ≡ length work)
+      → try p shake256 (signer_in p work₀ μ ρ) next ≡ fails ChallengeDry → length last ≡ length c~ → Trying p μ ρ limit work₀ c₀ more last (next + 1)
+  trying_dry u e b = trying_from [] place.W (omega arith) u.0 u.1 e b
+
+  pub trying_more : {r : Reason} {k : Place} {more last : List ℕ} → Reached p (signer_in p work₀ μ ρ) next k more last (length work) → 3 ≤ at k
+      → try p shake256 (signer_in p work₀ μ ρ) next ≡ fails r → length last ≡ length c~ → Trying p μ ρ limit work₀ c₀ more last (next + 1)
+  trying_more {k = k} D f e b = trying_from D.c k f D.held D.long e b
 
 -- ---- the hints are bits
 module _ (p : Set) (T : Trinomial p) (k : Place) (z r : List ℤ) (work : List ℕ) (H : Holds p k (make_hints p z r) work) where
@@ -149,12 +177,15 @@ module _ (p : Set) (T : Trinomial p) (k : Place) (z r : List ℤ) (work : List �
       outside : p.n ≤ i → get_or (tab p.n (λ t. make_hint p (coefficient z t) (coefficient r t))) i 0 ≤ 1
       outside l = subst (λ (x : ℕ). x ≤ 1) (sym (past_tab 0 p.n (λ t. make_hint p (coefficient z t) (coefficient r t)) i l)) (omega arith)
 
-module _ (p : Set) (T : Trinomial p) (S : Signer) (w c : List ℤ) (work : List ℕ) (H : Holds p place.Hints (hints p S w c) work) where
+module _ {p : Set} (T : Trinomial p) {S : Signer} {κ : ℕ} {work c~ : List ℕ} {size : ℕ} (D : Reached p S κ place.Hints work c~ size) where
   abbrev ct0 : List ℤ
-  ct0 = mul p c S.t0
+  ct0 = mul p D.c S.t0
 
-  pub hint_values : map pos (slot p place.Hints work) ≡ hints p S w c
-  hint_values = bits_values p T place.Hints (negated p ct0) (plus p (masked p S w c) ct0) work H
+  abbrev kept : List ℤ
+  kept = masked p S (w_of p S κ) D.c
+
+  pub hint_values : map pos (slot p place.Hints work) ≡ hints p S (w_of p S κ) D.c
+  hint_values = bits_values p T place.Hints (negated p ct0) (plus p kept ct0) work (D.held place.Hints (omega arith))
 
   pub hint_bit : (i : ℕ) → get_or (slot p place.Hints work) i 0 ≤ 1
-  hint_bit i = bits_bit p T place.Hints (negated p ct0) (plus p (masked p S w c) ct0) work H i
+  hint_bit i = bits_bit p T place.Hints (negated p ct0) (plus p kept ct0) work (D.held place.Hints (omega arith)) i

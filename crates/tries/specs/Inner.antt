@@ -1,7 +1,7 @@
 -- Inner: the memory of signing, from stage to stage of a try. No definition, and no promise of a public entry, rests on this file.
-use Rattle.std.specs.Prelude.{◌≡◌, List, [], ◌∷◌, map, ℕ, ◌+◌, ◌-◌, ◌≤◌, ◌<◌, ℤ, pos, get_or}
+use Rattle.std.specs.Prelude.{◌≡◌, List, [], ◌∷◌, map, ℕ, ◌+◌, ◌-◌, ◌≤◌, ◌<◌, ℤ, pos, get_or, Option, Some, None}
 use Rattle.sets.specs.Set.{Set}
-use Rattle.answers.specs.declared.Refusal.TheVariants.{Spent as SpentTries}
+use Rattle.answers.specs.declared.Refusal.TheVariants.{Spent}
 use Rattle.answers.specs.Result.{done, refused}
 use Rattle.rounding.specs.Rounding.{norm}
 use Rattle.shake.specs.Shake.{shake256}
@@ -14,8 +14,6 @@ use Rattle.scheme.specs.Sign.{Key, signer_with, first_pass}
 use Rattle.workspace.specs.declared.Place.{Place}
 use Rattle.workspace.specs.declared.Place.TheVariants as place
 use Rattle.workspace.specs.Inner.{at, slot, Holds, values}
-use Rattle.tries.specs.declared.Tried.{Tried}
-use Rattle.tries.specs.declared.Tried.TheVariants.{Passed, Spent}
 
 -- the key that lies in the memory: a as it is, s1, s2 and t0 centred
 abbrev pub key_in : Set → List ℕ → Key
@@ -60,7 +58,7 @@ pub record Passes (p : Set) (S : Signer) (limit κ : ℕ) (work c~ : List ℕ) :
     bytes = pack_signature p record { c~ = c~; z = response p S (y_of p S κ) c; h = hints p S (w_of p S κ) c };
   }
 
--- what the tries answer
-abbrev pub Found : Set → Signer → ℕ → Tried → List ℕ → List ℕ → Type 0
-Found p S limit (Passed κ) work c~ = Passes p S limit κ work c~
-Found p S limit Spent work c~ = first_pass (try p shake256 S) 0 limit ≡ refused SpentTries
+-- what the tries answer: the try that passed, if one did
+abbrev pub Found : Set → Signer → ℕ → Option ℕ → List ℕ → List ℕ → Type 0
+Found p S limit (Some κ) work c~ = Passes p S limit κ work c~
+Found p S limit None work c~ = first_pass (try p shake256 S) 0 limit ≡ refused Spent

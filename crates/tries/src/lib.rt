@@ -3,28 +3,20 @@
 
 ghost use Rattle.std.specs.Prelude.{◌≡◌, List, [], ℕ, ◌^◌, ◌≤◌, ◌<◌, ℤ, length};
 ghost use Rattle.sets.specs.Set.{hash_size, try_max};
-ghost use Rattle.sets.specs.Good.{Trinomial};
+ghost use Rattle.sets.specs.Good.{Good, Trinomial};
 ghost use Rattle.shake.specs.Shake.{shake256};
 ghost use Rattle.scheme.specs.Elements.{highs};
 ghost use Rattle.scheme.specs.Try.{Signer, commit};
 ghost use Rattle.workspace.specs.declared.Place.TheVariants as place;
-ghost use Rattle.workspace.specs.Inner.{Touched, Holds, Ready};
+ghost use Rattle.workspace.specs.Inner.{slot, Room, Touched, Holds, Ready};
 ghost use Rattle.tries.specs.Inner.{signer_in, Through, Found};
 
-use answers::Answer;
 use sets::numbers::Numbers;
 use workspace::Place;
 use workspace::arithmetic::{Op, combine, multiply};
 use workspace::commitment::commit;
 use workspace::drawing::{fill_c, fill_y};
 use workspace::reading::count_ones;
-
-// The first try that passed, or none did.
-#[derive(Clone, Copy)]
-pub enum Tried {
-    Passed(u32),
-    Spent,
-}
 
 // y and w = a·y of try κ.
 fn mask(p: Numbers, rho: &[u8], kappa: u32, work: &mut [u32])
@@ -68,8 +60,17 @@ fn rest(p: Numbers, work: &mut [u32])
     combine(p, Op::Difference, work, Place::W, Place::Rest, Place::Rest);
 }
 
+// What a place holds.
+fn slot(p: Numbers, work: &[u32], k: Place) -> &[u32]
+    requires { Good p × Room p work.now }
+    ensures { result.now ≡ slot p k work.now }
+{
+    &work[k.span(p)]
+}
+
 // The tries from κ = 0 on. A try fails for the first of the five reasons that holds (SPEC 8.7); the first that passes is the answer, and no later one
-// is looked at (SPEC 8.8).
+// is looked at (SPEC 8.8). None says that every try failed.
+// The loop counts κ by hand, since it yields its answer by `break`, which a `for` over the tries cannot (docs/FORMS.md).
 pub fn first_passing(
     p: Numbers,
     mu: &[u8],
@@ -77,69 +78,50 @@ pub fn first_passing(
     limit: u32,
     work: &mut [u32],
     commitment: &mut [u8],
-) -> Tried
+) -> Option<u32>
     requires trinomial { Trinomial p × Ready p place.T0 work.old }
     requires limit_le_try_max { (limit ≤ try_max) × (length commitment.old ≡ hash_size) }
     ensures { Found p (signer_in p work.old mu.now rho.now) limit result work.new commitment.new }
 {
-    let z = Place::Z.span(p).start;
-    let low = Place::Rest.span(p).start;
-    let ct0 = Place::Ct0.span(p).start;
     let mut next: u32 = 0;
-    let found = 'tries: loop {
+    'tries: loop {
         if limit <= next {
-            break 'tries Tried::Spent;
+            break 'tries None;
         }
         let kappa = next;
-        next = next + 1;
+        next += 1;
         mask(p, rho, kappa, work);
         commit_to(p, mu, work, commitment);
         // Reason 1: the challenge is dry.
-        let Answer::Done = fill_c(p, commitment, work) else {
+        if fill_c(p, commitment, work).is_err() {
             continue 'tries;
-        };
+        }
         // Reason 2: the norm of z is at least γ1 - β.
         respond(p, work);
-        let mut i: usize = 0;
-        'z: loop {
-            if p.n <= i {
-                break 'z;
-            }
-            if p.gamma1 - p.beta <= residues::magnitude(p.q, work[z + i]) {
+        for &z in slot(p, work, Place::Z) {
+            if p.gamma1 - p.beta <= residues::magnitude(p.q, z) {
                 continue 'tries;
             }
-            i = i + 1;
         }
         // Reason 3: the norm of the low bits of w - c·s2 is at least γ2 - β.
         rest(p, work);
-        let mut j: usize = 0;
-        'low: loop {
-            if p.n <= j {
-                break 'low;
-            }
-            if p.gamma2 - p.beta <= rounding::low_of(p, work[low + j]) {
+        for &low in slot(p, work, Place::Rest) {
+            if p.gamma2 - p.beta <= rounding::low_of(p, low) {
                 continue 'tries;
             }
-            j = j + 1;
         }
         // Reason 4: the norm of c·t0 is at least γ2.
         multiply(p, work, Place::C, Place::T0, Place::Ct0);
-        let mut k: usize = 0;
-        'ct0: loop {
-            if p.n <= k {
-                break 'ct0;
-            }
-            if p.gamma2 <= residues::magnitude(p.q, work[ct0 + k]) {
+        for &ct0 in slot(p, work, Place::Ct0) {
+            if p.gamma2 <= residues::magnitude(p.q, ct0) {
                 continue 'tries;
             }
-            k = k + 1;
         }
         // Reason 5: the hint has more than ω ones.
         combine(p, Op::Hint, work, Place::Rest, Place::Ct0, Place::Hints);
         if p.omega < count_ones(p, work, Place::Hints) {
             continue 'tries;
         }
-        break 'tries Tried::Passed(kappa);
-    };
-    found
+        break 'tries Some(kappa);
+    }
 }

@@ -3,40 +3,25 @@
 // Bytes of a SHAKE256 that stands for more bytes than a record holds.
 const DIGEST: usize = 32;
 
+// What each byte of an output is before the call.
+pub(crate) const FRESH: u8 = 165;
+
 // Copies as much as both hold.
 pub(crate) fn copy(from: &[u8], to: &mut [u8]) {
-    let mut i: usize = 0;
-    while i < from.len() {
-        if i >= to.len() {
-            break;
-        }
-        to[i] = from[i];
-        i += 1;
-    }
+    let n = from.len().min(to.len());
+    to[..n].copy_from_slice(&from[..n]);
 }
 
 // Xors bytes onto a buffer from its start.
 pub(crate) fn patch(bytes: &[u8], to: &mut [u8]) {
-    let mut i: usize = 0;
-    while i < bytes.len() {
-        if i >= to.len() {
-            break;
-        }
-        to[i] = to[i] ^ bytes[i];
-        i += 1;
+    for (old, &byte) in to.iter_mut().zip(bytes) {
+        *old ^= byte;
     }
 }
 
-// Whether each byte is 165, as it was before the call.
+// Whether each byte is as it was before the call.
 pub(crate) fn untouched(s: &[u8]) -> bool {
-    let mut i: usize = 0;
-    while i < s.len() {
-        if s[i] != 165 {
-            return false;
-        }
-        i += 1;
-    }
-    true
+    s.iter().all(|&byte| byte == FRESH)
 }
 
 // Whether two buffers, one after the other, are as expected: whole, or by the SHAKE256 of both.
@@ -46,25 +31,21 @@ pub(crate) fn agree(expected: &[u8], first: &[u8], second: &[u8]) -> bool {
         shake::shake256(first, second, b"", &mut digest);
         return &digest[..] == expected;
     }
-    let n = first.len();
-    if expected.len() < n {
-        return false;
+    match expected.split_at_checked(first.len()) {
+        Some((front, back)) => front == first && back == second,
+        None => false,
     }
-    if &expected[0..n] != first {
-        return false;
-    }
-    &expected[n..] == second
 }
 
-// The message of a seed: byte i is (i · (2 · (seed div 256) + 1) + i div 256 + seed mod 256) mod 256. `low` is the product mod 256.
+// The message of a seed: byte i is (i · (2 · (seed div 256) + 1) + i div 256 + seed mod 256) mod 256. The product is taken mod 256 as it goes.
 pub(crate) fn message(seed: u32, m: &mut [u8]) {
-    let step = seed / 256 % 128 * 2 + 1;
-    let start = seed % 256;
-    let mut low: u32 = 0;
-    let mut i: usize = 0;
-    while i < m.len() {
-        m[i] = ((low + start + (i / 256 % 256) as u32) % 256) as u8;
-        low = (low + step) % 256;
-        i += 1;
+    let [start, half, ..] = seed.to_le_bytes();
+    let step = half % 128 * 2 + 1;
+    let mut product: u8 = 0;
+    for (i, byte) in m.iter_mut().enumerate() {
+        *byte = product
+            .wrapping_add(start)
+            .wrapping_add((i / 256 % 256) as u8);
+        product = product.wrapping_add(step);
     }
 }

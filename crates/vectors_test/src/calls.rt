@@ -1,213 +1,131 @@
-// A record's call, and whether its answer and its outputs are as expected. The kept buffers change as the record says.
-use crate::bytes::{agree, copy, untouched};
-use crate::record::{size, word};
+// A record's call, and whether its answer and its outputs are as expected. What is kept changes as the record says.
+use crate::bytes::{FRESH, agree, copy, message, patch, untouched};
+use crate::record::{Buffer, Header, Kind};
 use answers::Report;
-use sets::limits::SEED;
+use sets::limits::{MESSAGE_MAX, SEED};
 use sets::set1::Set1;
 
 // A buffer may be lent 8 bytes longer than it has to be.
 const MORE: usize = 8;
 
-pub(crate) const PUBLIC_ROOM: usize = Set1::PUBLIC_KEY + MORE;
-
-pub(crate) const SECRET_ROOM: usize = Set1::SECRET_KEY + MORE;
-
-pub(crate) const SIGNATURE_ROOM: usize = Set1::SIGNATURE + MORE;
-
 const SEED_ROOM: usize = SEED + MORE;
 
-// Whether an answer is the record's.
-fn answer_is(h: &[u8], told: Report) -> bool {
-    if told.number != word(h, 4) {
-        return false;
-    }
-    if told.place != word(h, 8) {
-        return false;
-    }
-    if told.index != size(h, 12) {
-        return false;
-    }
-    told.tries == word(h, 16)
+const PUBLIC_ROOM: usize = Set1::PUBLIC_KEY + MORE;
+
+const SECRET_ROOM: usize = Set1::SECRET_KEY + MORE;
+
+const SIGNATURE_ROOM: usize = Set1::SIGNATURE + MORE;
+
+const MESSAGE_ROOM: usize = MESSAGE_MAX + MORE;
+
+// What is kept from record to record, and room for a message.
+#[derive(Drop)]
+pub(crate) struct Kept {
+    public: [u8; PUBLIC_ROOM],
+    secret: [u8; SECRET_ROOM],
+    signature: [u8; SIGNATURE_ROOM],
+    message: [u8; MESSAGE_ROOM],
 }
 
-// Key making, with what is lent.
-fn made(
-    h: &[u8],
-    zeta: &[u8],
-    prime: &[u8],
-    expected: &[u8],
-    public: &mut [u8],
-    secret: &mut [u8],
-) -> bool {
-    let told = set1::make_keys(zeta, prime, public, secret).report();
-    if !answer_is(h, told) {
-        return false;
-    }
-    if told.number == 0 {
-        return agree(expected, public, secret);
-    }
-    if !untouched(public) {
-        return false;
-    }
-    untouched(secret)
+// A seed at the start of a buffer of zeros.
+fn roomy(seed: &[u8]) -> [u8; SEED_ROOM] {
+    let mut room = [0u8; SEED_ROOM];
+    copy(seed, &mut room);
+    room
 }
 
-// The same, from the record's bytes and buffers of full room.
-fn make(
-    h: &[u8],
-    body: &[u8],
-    zeta: &mut [u8],
-    prime: &mut [u8],
-    public: &mut [u8],
-    secret: &mut [u8],
-) -> bool {
-    let first = size(h, 20);
-    let second = size(h, 24);
-    let third = size(h, 28);
-    let fourth = size(h, 32);
-    if body.len() < 2 * SEED {
-        return false;
+impl Kept {
+    pub(crate) fn new() -> Self {
+        Kept {
+            public: [0; PUBLIC_ROOM],
+            secret: [0; SECRET_ROOM],
+            signature: [0; SIGNATURE_ROOM],
+            message: [0; MESSAGE_ROOM],
+        }
     }
-    copy(&body[0..SEED], zeta);
-    copy(&body[SEED..2 * SEED], prime);
-    if zeta.len() < first {
-        return false;
-    }
-    if prime.len() < second {
-        return false;
-    }
-    if public.len() < third {
-        return false;
-    }
-    if secret.len() < fourth {
-        return false;
-    }
-    made(
-        h,
-        &zeta[0..first],
-        &prime[0..second],
-        &body[2 * SEED..],
-        &mut public[0..third],
-        &mut secret[0..fourth],
-    )
-}
 
-pub(crate) fn make_keys(h: &[u8], body: &[u8], public: &mut [u8], secret: &mut [u8]) -> bool {
-    let mut zeta = [0u8; SEED_ROOM];
-    let mut prime = [0u8; SEED_ROOM];
-    let mut new_public = [165u8; PUBLIC_ROOM];
-    let mut new_secret = [165u8; SECRET_ROOM];
-    if !make(
-        h,
-        body,
-        &mut zeta,
-        &mut prime,
-        &mut new_public,
-        &mut new_secret,
-    ) {
-        return false;
+    // Whether a record is as expected.
+    pub(crate) fn holds(&mut self, kind: Kind, h: &Header, body: &[u8]) -> bool {
+        match kind {
+            Kind::End => true,
+            Kind::MakeKeys => self.makes_keys(h, body).unwrap_or(false),
+            Kind::Sign => self.signs(h, body).unwrap_or(false),
+            Kind::Check => self.checks(h).unwrap_or(false),
+            Kind::Patch => self.patches(h, body).is_some(),
+        }
     }
-    if word(h, 4) == 0 {
-        copy(&new_public[0..Set1::PUBLIC_KEY], public);
-        copy(&new_secret[0..Set1::SECRET_KEY], secret);
-    }
-    true
-}
 
-// Signing, with what is lent.
-fn signed(h: &[u8], expected: &[u8], key: &[u8], message: &[u8], out: &mut [u8]) -> bool {
-    let told = set1::sign(key, message, word(h, 40), out).report();
-    if !answer_is(h, told) {
-        return false;
+    // None where the record asks for more than there is.
+    fn makes_keys(&mut self, h: &Header, body: &[u8]) -> Option<bool> {
+        let (seeds, expected) = body.split_at_checked(2 * SEED)?;
+        let (zeta, prime) = seeds.split_at(SEED);
+        let zeta_room = roomy(zeta);
+        let prime_room = roomy(prime);
+        let mut public_room = [FRESH; PUBLIC_ROOM];
+        let mut secret_room = [FRESH; SECRET_ROOM];
+        let public = public_room.get_mut(..h.third)?;
+        let secret = secret_room.get_mut(..h.fourth)?;
+        let told = Report::from(set1::make_keys(
+            zeta_room.get(..h.first)?,
+            prime_room.get(..h.second)?,
+            public,
+            secret,
+        ));
+        if told != h.told {
+            return Some(false);
+        }
+        if told.number != 0 {
+            return Some(untouched(public) && untouched(secret));
+        }
+        if !agree(expected, public, secret) {
+            return Some(false);
+        }
+        copy(public, &mut self.public);
+        copy(secret, &mut self.secret);
+        Some(true)
     }
-    if told.number == 0 {
-        return agree(expected, out, b"");
-    }
-    untouched(out)
-}
 
-// The same, from buffers of full room.
-fn sign_in(h: &[u8], expected: &[u8], secret: &[u8], message: &mut [u8], out: &mut [u8]) -> bool {
-    let first = size(h, 20);
-    let second = size(h, 24);
-    let third = size(h, 28);
-    if secret.len() < first {
-        return false;
+    fn signs(&mut self, h: &Header, expected: &[u8]) -> Option<bool> {
+        let mut room = [FRESH; SIGNATURE_ROOM];
+        let out = room.get_mut(..h.third)?;
+        let m = self.message.get_mut(..h.second)?;
+        message(h.seed, m);
+        let key = self.secret.get(..h.first)?;
+        let told = Report::from(set1::sign(key, m, h.limit, out));
+        if told != h.told {
+            return Some(false);
+        }
+        if told.number != 0 {
+            return Some(untouched(out));
+        }
+        if !agree(expected, out, b"") {
+            return Some(false);
+        }
+        copy(out, &mut self.signature);
+        Some(true)
     }
-    if message.len() < second {
-        return false;
-    }
-    if out.len() < third {
-        return false;
-    }
-    crate::bytes::message(word(h, 36), &mut message[0..second]);
-    signed(
-        h,
-        expected,
-        &secret[0..first],
-        &message[0..second],
-        &mut out[0..third],
-    )
-}
 
-pub(crate) fn sign(
-    h: &[u8],
-    expected: &[u8],
-    secret: &[u8],
-    message: &mut [u8],
-    signature: &mut [u8],
-) -> bool {
-    let mut out = [165u8; SIGNATURE_ROOM];
-    if !sign_in(h, expected, secret, message, &mut out) {
-        return false;
+    fn checks(&mut self, h: &Header) -> Option<bool> {
+        let m = self.message.get_mut(..h.third)?;
+        message(h.seed, m);
+        let key = self.public.get(..h.first)?;
+        let signature = self.signature.get(..h.second)?;
+        let told = Report::from(set1::check(key, signature, m));
+        Some(told == h.told)
     }
-    if word(h, 4) == 0 {
-        copy(&out[0..Set1::SIGNATURE], signature);
-    }
-    true
-}
 
-pub(crate) fn check(h: &[u8], public: &[u8], signature: &[u8], message: &mut [u8]) -> bool {
-    let first = size(h, 20);
-    let second = size(h, 24);
-    let third = size(h, 28);
-    if public.len() < first {
-        return false;
+    // Patches the buffer that the record names.
+    fn patches(&mut self, h: &Header, bytes: &[u8]) -> Option<()> {
+        match Buffer::try_from(h.first).ok()? {
+            Buffer::PublicKey => patch_from(h.second, bytes, &mut self.public),
+            Buffer::SecretKey => patch_from(h.second, bytes, &mut self.secret),
+            Buffer::Signature => patch_from(h.second, bytes, &mut self.signature),
+        }
     }
-    if signature.len() < second {
-        return false;
-    }
-    if message.len() < third {
-        return false;
-    }
-    crate::bytes::message(word(h, 36), &mut message[0..third]);
-    answer_is(
-        h,
-        set1::check(&public[0..first], &signature[0..second], &message[0..third]).report(),
-    )
 }
 
 // Patches a buffer from a position on.
-fn patch_at(bytes: &[u8], at: usize, to: &mut [u8]) -> bool {
-    if to.len() < at {
-        return false;
-    }
-    crate::bytes::patch(bytes, &mut to[at..]);
-    true
-}
-
-pub(crate) fn patch(
-    h: &[u8],
-    bytes: &[u8],
-    public: &mut [u8],
-    secret: &mut [u8],
-    signature: &mut [u8],
-) -> bool {
-    let at = size(h, 24);
-    match word(h, 20) {
-        1 => patch_at(bytes, at, public),
-        2 => patch_at(bytes, at, secret),
-        5 => patch_at(bytes, at, signature),
-        _ => false,
-    }
+fn patch_from(at: usize, bytes: &[u8], whole: &mut [u8]) -> Option<()> {
+    patch(bytes, whole.get_mut(at..)?);
+    Some(())
 }

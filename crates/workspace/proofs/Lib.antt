@@ -2,7 +2,6 @@
 pub mod Memory
 pub mod Writing
 -- Arithmetic on places.
-pub mod Scaling
 pub mod Making
 -- What places hold, from step to step.
 pub mod Holding
@@ -11,7 +10,6 @@ pub mod Filling
 pub mod HintBits
 pub mod Fields
 pub mod Codes
-pub mod Committing
 pub mod Packing
 -- Each contract permits one outcome.
 pub mod Determined

@@ -5,7 +5,7 @@ use Prim.Native.Nat.{ℕ, zero, suc, ◌+◌, ◌-◌, ◌*◌, ◌%◌, ◌^◌
 use native.Mathlib.Nat.{mod-lt, mul_comm, mul-le-mul_right, le_of_lt}
 use native.Mathlib.Omega.{arith}
 use lib.IntN.{ℤ, pos, nat_abs, neg_ℤ, ◌+ℤ◌, ◌-ℤ◌, ◌*ℤ◌}
-use lib.ListN.{length, get_or, length-map}
+use lib.ListN.{length, get_or, set, length-map}
 use Rattle.sets.specs.Set.{Set, alpha, steps}
 use Rattle.sets.specs.Good.{Trinomial}
 use Rattle.residues.specs.Remainder.{residue, signed, centred}
@@ -24,9 +24,10 @@ use Rattle.ring.proofs.Signed.{at_reduced, product_residues}
 use Rattle.scheme.specs.Elements.{plus, negated, scaled, centring, use_hints}
 use Rattle.workspace.specs.declared.arithmetic.Op.{Op}
 use Rattle.workspace.specs.declared.arithmetic.Op.TheVariants.{Sum, Difference, LessScaled, Hint, Used, High, PowerHigh, PowerLow}
-use Rattle.workspace.specs.Inner.{at, slot, Holds, Made, combined, made}
+use Rattle.workspace.specs.Inner.{at, slot, Room, Spans, Holds, Made, combined, made}
 use Rattle.workspace.specs.declared.Place.{Place}
-use Rattle.workspace.proofs.Memory.{Wrote, at_element}
+use Rattle.workspace.proofs.Memory.{Wrote, at_element, within}
+use Rattle.workspace.proofs.Writing.{Writing, writing_more, writing_all, unwritten}
 
 module _ (p : Set) (T : Trinomial p) where
   abbrev pub reduced : List ℤ → List ℕ
@@ -161,13 +162,7 @@ module _ (p : Set) (T : Trinomial p) (i j k : Place) (work more : List ℕ) wher
   abbrev pub combined_at : Op → List ℕ
   combined_at op = tab p.n (λ t. combined p op (get_or (slot p i work) t 0) (get_or (slot p j work) t 0))
 
-  -- the same by where the elements start
-  pub combined_from : (op : Op) (first second : ℕ) → first ≡ at i * p.n → second ≡ at j * p.n
-      → tab p.n (λ t. combined p op (get_or work (first + t) 0) (get_or work (second + t) 0)) ≡ combined_at op
-  combined_from op first second e f =
-      tab_cong p.n _ _ (λ t l. rw (e, f, at_element p.n (at i) t work l, at_element p.n (at j) t work l) refl)
-
-  pub made_combined : (op : Op) → Wrote p.n (at k) (combined_at op) work more → Made p i j k (made p op) work more
+  made_combined : (op : Op) → Wrote p.n (at k) (combined_at op) work more → Made p i j k (made p op) work more
   made_combined op w =
       made_of (made p op) _ w
       (λ a b A B. (
@@ -184,3 +179,24 @@ module _ (p : Set) (T : Trinomial p) (i j k : Place) (work more : List ℕ) wher
   made_product w =
       made_of (mul p) _ w
       (λ a b A B. (length_product a b, (λ x. multiplied p (A.here x) (B.here x)) ∙ product_residues p T a b A.long B.long))
+
+-- number by number, where the elements start as the code has found it
+abbrev pub made_from : Set → Op → ℕ → ℕ → List ℕ → List ℕ
+made_from p op first second work = tab p.n (λ t. combined p op (get_or work (first + t) 0) (get_or work (second + t) 0))
+
+module _ {p : Set} {i j k : Place} {first first_end second second_end to to_end : ℕ} {work more : List ℕ} (room : Room p work)
+    (I : Spans p i first first_end) (J : Spans p j second second_end) (K : Spans p k to to_end) (op : Op) {t : ℕ}
+    (W : Writing p.n to (made_from p op first second work) work t more) where
+  pub made_more : {v : ℕ} → t < p.n → v ≡ combined p op (get_or more (first + t) 0) (get_or more (second + t) 0)
+      → Writing p.n to (made_from p op first second work) work (t + 1) (set more (to + t) v)
+  made_more l e =
+      writing_more W l (omega (arith, K.ends, K.most))
+      (e ∙ (λ x. combined p op (unwritten I K W l x) (unwritten J K W l x)) ∙ sym (at_tab 0 p.n _ t l))
+
+  pub made_all : Trinomial p → p.n ≤ t → Made p i j k (made p op) work more
+  made_all T l =
+      made_combined p T i j k work more op
+      (rw (sym same) (writing_all W (at k) K.starts (within p k work room) (length_tab p.n _) l))
+    where
+      same : made_from p op first second work ≡ combined_at p T i j k work more op
+      same = tab_cong p.n _ _ (λ t l. rw (I.starts, J.starts, at_element p.n (at i) t work l, at_element p.n (at j) t work l) refl)

@@ -1,18 +1,16 @@
 -- Inner: the memory that a call works in, and what its places hold. No definition, and no promise of a public entry, rests on this file.
-use Rattle.std.specs.Prelude.{◌≡◌, true, List, map, ℕ, ◌+◌, ◌-◌, ◌*◌, ◌%◌, ◌^◌, ◌≤◌, ◌<◌, ℤ, pos, length, get_or, take, drop}
+use Rattle.std.specs.Prelude.{◌≡◌, true, List, map, ℕ, ◌+◌, ◌-◌, ◌*◌, ◌%◌, ◌^◌, ◌≤◌, ◌<◌, ℤ, pos, length, get_or, take, drop, Ok, Err}
 use Rattle.sets.specs.Set.{Set}
 use Rattle.answers.specs.declared.Refusal.{Refusal}
-use Rattle.answers.specs.declared.Answer.{Answer}
-use Rattle.answers.specs.declared.Answer.TheVariants.{Done, Refused}
+use Rattle.answers.specs.Refusals.{Answer}
 use Rattle.answers.specs.Result.{Result}
 use Rattle.answers.specs.Inner.{Gives}
 use Rattle.residues.specs.Remainder.{residue, signed}
 use Rattle.rounding.specs.Rounding.{high_bits, make_hint, use_hint, power2_round}
 use Rattle.ring.specs.Inner.{Residues}
 use Rattle.layouts.specs.declared.layout.Layout.{Layout}
-use Rattle.layouts.specs.declared.unpack.Unpacked.{Unpacked}
-use Rattle.layouts.specs.declared.unpack.Unpacked.TheVariants.{All, BadAt}
 use Rattle.layouts.specs.Layouts.{holds}
+use Rattle.layouts.specs.Inner.{Unpacked, Readable}
 use Rattle.scheme.specs.Elements.{each, plus, minus, negated, scaled, highs, power_highs, power_lows, make_hints}
 use Rattle.ring.specs.Ring.{at as coefficient}
 use Rattle.workspace.specs.declared.Place.{Place}
@@ -81,6 +79,12 @@ pub record Packable (p : Set) (L : Layout) (k : Place) (work : List ℕ) : Type 
   pub residues : Residues p (slot p k work)
   pub allowed : (i : ℕ) → i < p.n → holds L (signed p.q (get_or (slot p k work) i 0)) ≡ true
 
+-- remainders by q whose centred values the layout has codes for
+pub record Codable (L : Layout) (q : ℕ) (xs : List ℕ) : Type 0 where
+  pub readable : Readable L q
+  pub below : (k : ℕ) → get_or xs k 0 < q
+  pub allowed : (k : ℕ) → k < length xs → holds L (signed q (get_or xs k 0)) ≡ true
+
 -- hints: each coefficient is 0 or 1
 abbrev pub Bits : List ℤ → Type 0
 Bits h = (t : ℕ) → (b : ℕ) × (coefficient h t ≡ pos b) × (b ≤ 1)
@@ -93,8 +97,8 @@ pub record Fills (p : Set) (k : Place) (m : Result (List ℤ)) (work : List ℕ)
 
 -- what unpacking answers where the refusal of a bad code is f of its index
 abbrev pub answer_with : (ℕ → Refusal) → Unpacked → Answer
-answer_with f All = Done
-answer_with f (BadAt i) = Refused (f i)
+answer_with f (Ok all) = Ok all
+answer_with f (Err bad) = Err (f bad.index)
 
 -- place k is made of places i and j by f
 pub record Made (p : Set) (i j k : Place) (f : List ℤ → List ℤ → List ℤ) (work more : List ℕ) : Type 0 where

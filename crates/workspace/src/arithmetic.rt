@@ -1,10 +1,8 @@
 // Arithmetic on places: coefficient by coefficient, and the product.
-ghost use Rattle.std.specs.Prelude.{◌≡◌, ◌+◌, ◌-◌, ◌*◌, ◌%◌, ◌^◌, ◌<◌, pos, length};
+ghost use Rattle.std.specs.Prelude.{◌≡◌, ◌+◌, ◌-◌, ◌*◌, ◌%◌, ◌^◌, ◌<◌};
 ghost use Rattle.sets.specs.Good.{Good, Trinomial};
-ghost use Rattle.residues.specs.Remainder.{residue};
-ghost use Rattle.rounding.specs.Rounding.{power2_round};
 ghost use Rattle.ring.specs.Profile.{mul};
-ghost use Rattle.ring.specs.Inner.{multiplied, Residues};
+ghost use Rattle.ring.specs.Inner.{Residues};
 ghost use Rattle.workspace.specs.Inner.{slot, Room, Made, combined, made};
 
 use crate::Place;
@@ -12,7 +10,8 @@ use residues::divide::{modulo, wrap};
 use sets::limits;
 use sets::numbers::Numbers;
 
-// What is made of a coefficient x, and of y where there are two.
+// What is made of a coefficient x, and of y where there are two. It is an enum and no closure: what a closure answers need not be one number,
+// and the contract of `combine` permits one outcome (combine_one of proofs/Determined.antt).
 #[derive(Clone, Copy)]
 pub enum Op {
     // x + y
@@ -37,27 +36,8 @@ fn less_scaled(p: Numbers, x: u32, y: u32) -> u32
     requires x_lt_q { (x < p.q) × (y < p.q) }
     ensures { result ≡ (x + (p.q - y * 2 ^ p.d % p.q)) % p.q }
 {
-    let scaled = (y as u64) * (1u64 << p.d);
-    let less = modulo(p.q, scaled);
+    let less = modulo(p.q, u64::from(y) * (1u64 << p.d));
     wrap(p.q, x + (p.q - less))
-}
-
-fn power_high(p: Numbers, x: u32) -> u32
-    requires good { Good p }
-    requires x_lt_q { x < p.q }
-    ensures { result ≡ (power2_round p (pos x)).high }
-{
-    let s = rounding::power_of(p, x);
-    s.high
-}
-
-fn power_low(p: Numbers, x: u32) -> u32
-    requires good { Good p }
-    requires x_lt_q { x < p.q }
-    ensures { result ≡ residue p.q (power2_round p (pos x)).low }
-{
-    let s = rounding::power_of(p, x);
-    residues::reduce(p.q, s.low)
 }
 
 fn combined(p: Numbers, op: Op, x: u32, y: u32) -> u32
@@ -72,8 +52,8 @@ fn combined(p: Numbers, op: Op, x: u32, y: u32) -> u32
         Op::Hint => rounding::hint_of(p, wrap(p.q, p.q - y), wrap(p.q, x + y)),
         Op::Used => rounding::used_of(p, x, y),
         Op::High => rounding::high_of(p, x),
-        Op::PowerHigh => power_high(p, x),
-        Op::PowerLow => power_low(p, x),
+        Op::PowerHigh => rounding::power_of(p, x).high,
+        Op::PowerLow => residues::reduce(p.q, rounding::power_of(p, x).low),
     }
 }
 
@@ -86,37 +66,9 @@ pub fn combine(p: Numbers, op: Op, work: &mut [u32], i: Place, j: Place, k: Plac
     let first = i.span(p).start;
     let second = j.span(p).start;
     let to = k.span(p).start;
-    let mut t: usize = 0;
-    while t < p.n {
+    for t in 0..p.n {
         work[to + t] = combined(p, op, work[first + t], work[second + t]);
-        t += 1;
     }
-}
-
-fn product_of(p: Numbers, work: &[u32], i: Place, j: Place, out: &mut [u32])
-    requires trinomial { Trinomial p × Room p work.now }
-    requires residues { Residues p (slot p i work.now) × Residues p (slot p j work.now) × (length out.old ≡ p.n) }
-    ensures { out.new ≡ multiplied p (slot p i work.now) (slot p j work.now) }
-{
-    let first = i.span(p);
-    let a = first.start;
-    let a_end = first.end;
-    let second = j.span(p);
-    let b = second.start;
-    let b_end = second.end;
-    ring::multiply(p, &work[a..a_end], &work[b..b_end], out);
-}
-
-fn multiply_in(p: Numbers, work: &mut [u32], i: Place, j: Place, k: Place, product: &mut [u32])
-    requires trinomial { Trinomial p × Room p work.old }
-    requires residues { Residues p (slot p i work.old) × Residues p (slot p j work.old) × (length product.old ≡ p.n) }
-    ensures { Made p i j k (mul p) work.old work.new }
-{
-    product_of(p, work, i, j, product);
-    let span = k.span(p);
-    let start = span.start;
-    let end = span.end;
-    buffers::copy_numbers(&mut work[start..end], product);
 }
 
 // Place k = place i times place j. The product passes over the zeros of place i.
@@ -126,6 +78,7 @@ pub fn multiply(p: Numbers, work: &mut [u32], i: Place, j: Place, k: Place)
     ensures { Made p i j k (mul p) work.old work.new }
 {
     let mut product = [0u32; limits::CAPACITY];
-    let n = p.n;
-    multiply_in(p, work, i, j, k, &mut product[..n]);
+    let product = &mut product[..p.n];
+    ring::multiply(p, &work[i.span(p)], &work[j.span(p)], product);
+    work[k.span(p)].copy_from_slice(product);
 }

@@ -3,7 +3,7 @@ ghost use Rattle.std.specs.Prelude.{◌≡◌, length};
 ghost use Rattle.sets.specs.Set.{hash_size, wide_size};
 ghost use Rattle.sets.specs.Good.{Trinomial};
 ghost use Rattle.shake.specs.Shake.{shake256};
-ghost use Rattle.layouts.specs.Layouts.{w1_layout, size};
+ghost use Rattle.layouts.specs.Layouts.{w1_layout};
 ghost use Rattle.scheme.specs.Try.{commit};
 ghost use Rattle.scheme.specs.Sign.{mu};
 ghost use Rattle.workspace.specs.declared.Place.TheVariants as place;
@@ -24,22 +24,15 @@ pub fn mu(ph: &[u8], message: &[u8], out: &mut [u8])
     shake::shake256(ph, message, b"", out);
 }
 
-fn commit_in(p: Numbers, mu: &[u8], work: &[u32], packed: &mut [u8], out: &mut [u8])
-    requires trinomial { Trinomial p × Room p work.now × Packable p (w1_layout p) place.W1 work.now }
-    requires packed_len { (length packed.old ≡ size (w1_layout p) p.n) × (length out.old ≡ hash_size) }
-    ensures { out.new ≡ commit p shake256 mu.now (values p place.W1 work.now) }
-{
-    pack(p, Layout::of(p, Field::W1), work, Place::W1, packed);
-    shake::shake256(mu, packed, b"", out);
-}
-
 // c̃ of μ and of the w1 that stands at its place (SPEC 8.4).
 pub fn commit(p: Numbers, mu: &[u8], work: &[u32], out: &mut [u8])
     requires trinomial { Trinomial p × Room p work.now × Packable p (w1_layout p) place.W1 work.now }
     requires out_len { length out.old ≡ hash_size }
     ensures { out.new ≡ commit p shake256 mu.now (values p place.W1 work.now) }
 {
+    let l = Layout::of(p, Field::W1);
     let mut packed = [0u8; limits::PACKED_W1];
-    let len = Layout::of(p, Field::W1).size(p.n);
-    commit_in(p, mu, work, &mut packed[..len], out);
+    let packed = &mut packed[..l.size(p.n)];
+    pack(p, l, work, Place::W1, packed);
+    shake::shake256(mu, packed, b"", out);
 }

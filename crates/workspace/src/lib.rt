@@ -1,4 +1,6 @@
-// The memory that a call works in: elements of remainders, one after the other, each at a place with a name.
+// The memory that a call works in: elements of remainders, one after the other, each at a place with a name. The set and the memory are lent side
+// by side, with Trinomial and Room as clauses: a method of a struct of both, through `&mut self`, would have to promise in each contract that
+// the set stays as it was.
 #![tactic(auto)]
 
 pub mod arithmetic;
@@ -11,8 +13,8 @@ ghost use Rattle.std.specs.Prelude.{◌≡◌};
 ghost use Rattle.sets.specs.Good.{Good};
 ghost use Rattle.workspace.specs.Inner.{at, Spans};
 
-use packing::parts::Span;
 use sets::numbers::Numbers;
+use std::ops::Range;
 
 // How many elements there are.
 pub const PLACES: usize = 11;
@@ -63,14 +65,11 @@ impl Place {
     }
 
     // Where the element stands.
-    pub fn span(self, p: Numbers) -> Span
+    pub fn span(self, p: Numbers) -> Range<usize>
         requires { Good p }
         ensures { Spans p self result.start result.end }
     {
         let start = self.at() * p.n;
-        Span {
-            start: start,
-            end: start + p.n,
-        }
+        start..start + p.n
     }
 }

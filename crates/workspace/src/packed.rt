@@ -1,5 +1,5 @@
 // Places packed into bytes (SPEC 6.1): of allowed values, each code is found from the remainder.
-ghost use Rattle.std.specs.Prelude.{◌≡◌, true, map, ℕ, ◌≤◌, ◌<◌, length, get_or};
+ghost use Rattle.std.specs.Prelude.{◌≡◌, true, map, ◌≤◌, ◌<◌, length};
 ghost use Rattle.sets.specs.Set.{capacity};
 ghost use Rattle.sets.specs.Good.{Trinomial};
 ghost use Rattle.residues.specs.Remainder.{signed};
@@ -7,7 +7,7 @@ ghost use Rattle.layouts.specs.Layouts.{code, holds, size, pack};
 ghost use Rattle.packing.specs.Parts.{total, parts_of};
 ghost use Rattle.layouts.specs.Inner.{Readable};
 ghost use Rattle.packing.specs.Inner.{size_in, start_in, put};
-ghost use Rattle.workspace.specs.Inner.{Room, Packable, values};
+ghost use Rattle.workspace.specs.Inner.{Room, Packable, Codable, values};
 
 use crate::Place;
 use layouts::layout::Layout;
@@ -21,46 +21,35 @@ fn code_of(l: Layout, q: u32, x: u32) -> u32
     requires x_lt_q { (x < q) × (holds l (signed q x) ≡ true) }
     ensures { result ≡ code l (signed q x) }
 {
-    if l.down {
-        if x <= l.base {
-            return l.base - x;
-        }
-        return l.base + q - x;
+    if !l.down {
+        return x;
     }
-    x
+    if x <= l.base {
+        l.base - x
+    } else {
+        l.base + q - x
+    }
 }
 
 fn codes_of(l: Layout, q: u32, xs: &[u32], codes: &mut [u32])
-    requires readable { Readable l q }
-    requires by_index { ((k : ℕ) → get_or xs.now k 0 < q) × ((k : ℕ) → k < length xs.now → holds l (signed q (get_or xs.now k 0)) ≡ true) × (length codes.old ≡ length xs.now) }
+    requires codable { Codable l q xs.now }
+    requires codes_len { length codes.old ≡ length xs.now }
     ensures { codes.new ≡ map (code l) (map (signed q) xs.now) }
 {
-    let mut i: usize = 0;
-    while i < xs.len() {
-        codes[i] = code_of(l, q, xs[i]);
-        i += 1;
+    for (i, &x) in xs.iter().enumerate() {
+        codes[i] = code_of(l, q, x);
     }
 }
 
-fn pack_in(l: Layout, q: u32, xs: &[u32], codes: &mut [u32], out: &mut [u8])
-    requires readable { Readable l q }
-    requires by_index { ((k : ℕ) → get_or xs.now k 0 < q) × ((k : ℕ) → k < length xs.now → holds l (signed q (get_or xs.now k 0)) ≡ true) × (length codes.old ≡ length xs.now) }
-    requires xs_len_bound { (length xs.now ≤ 4096) × (length out.old ≡ size l (length xs.now)) }
-    ensures { out.new ≡ pack l (length xs.now) (map (signed q) xs.now) }
-{
-    codes_of(l, q, xs, codes);
-    digits::pack_codes(codes, l.bits, out);
-}
-
 fn pack_element(l: Layout, q: u32, xs: &[u32], out: &mut [u8])
-    requires readable { Readable l q }
-    requires by_index { ((k : ℕ) → get_or xs.now k 0 < q) × ((k : ℕ) → k < length xs.now → holds l (signed q (get_or xs.now k 0)) ≡ true) }
-    requires xs_len_bound { (length xs.now ≤ capacity) × (length out.old ≡ size l (length xs.now)) }
+    requires codable { Codable l q xs.now }
+    requires len { (length xs.now ≤ capacity) × (length out.old ≡ size l (length xs.now)) }
     ensures { out.new ≡ pack l (length xs.now) (map (signed q) xs.now) }
 {
     let mut codes = [0u32; limits::CAPACITY];
-    let n = xs.len();
-    pack_in(l, q, xs, &mut codes[..n], out);
+    let codes = &mut codes[..xs.len()];
+    codes_of(l, q, xs, codes);
+    digits::pack_codes(codes, l.bits, out);
 }
 
 // Place k, packed.
@@ -69,10 +58,7 @@ pub fn pack(p: Numbers, l: Layout, work: &[u32], k: Place, out: &mut [u8])
     requires packable { Packable p l k work.now × (length out.old ≡ size l p.n) }
     ensures { out.new ≡ pack l p.n (values p k work.now) }
 {
-    let span = k.span(p);
-    let start = span.start;
-    let end = span.end;
-    pack_element(l, p.q, &work[start..end], out);
+    pack_element(l, p.q, &work[k.span(p)], out);
 }
 
 // Place k, packed where a part of a key or a signature stands.
@@ -81,8 +67,5 @@ pub fn put(p: Numbers, l: Layout, part: Part, work: &[u32], k: Place, whole: &mu
     requires packable { Packable p l k work.now × (length whole.old ≡ total (parts_of p part)) × (size_in p part ≡ size l p.n) }
     ensures { whole.new ≡ put (start_in p part) (pack l p.n (values p k work.now)) whole.old }
 {
-    let span = part.span(p);
-    let start = span.start;
-    let end = span.end;
-    pack(p, l, work, k, &mut whole[start..end]);
+    pack(p, l, work, k, &mut whole[part.span(p)]);
 }

@@ -12,22 +12,19 @@ ghost use Rattle.workspace.specs.declared.Place.TheVariants as place;
 ghost use Rattle.workspace.specs.Inner.{slot, Room, Fills, answer_with};
 
 use crate::Place;
-use answers::{Answer, Field, Refusal};
+use answers::{Field, Refusal};
 use layouts::layout::Layout;
-use layouts::unpack::Unpacked;
+use layouts::unpack::BadCode;
 use packing::parts::Part;
 use sets::numbers::Numbers;
 
 // Place k from packed bytes.
-fn unpack(p: Numbers, l: Layout, packed: &[u8], work: &mut [u32], k: Place) -> Unpacked
+fn unpack(p: Numbers, l: Layout, packed: &[u8], work: &mut [u32], k: Place) -> Result<(), BadCode>
     requires good { Good p × Readable l p.q × Room p work.old }
     requires packed_len { length packed.now ≡ size l p.n }
     ensures { (f : ℕ → Refusal) → Fills p k (unpack l f p.n packed.now) work.old (answer_with f result) work.new }
 {
-    let span = k.span(p);
-    let start = span.start;
-    let end = span.end;
-    layouts::unpack::unpack(l, p.q, packed, &mut work[start..end])
+    layouts::unpack::unpack(l, p.q, packed, &mut work[k.span(p)])
 }
 
 // Place k from a field of a key or a signature. A refusal names the field and the lowest index of a code that is not allowed.
@@ -38,16 +35,14 @@ pub fn read_field(
     whole: &[u8],
     work: &mut [u32],
     k: Place,
-) -> Answer
+) -> Result<(), Refusal>
     requires good { Good p × Room p work.old }
     requires whole_len { (length whole.now ≡ total (parts_of p part)) × (size_in p part ≡ size (layout_of p f) p.n) }
     ensures { Fills p k (field_in p f part whole.now) work.old result work.new }
 {
-    let found = unpack(p, Layout::of(p, f), part.of(p, whole), work, k);
-    match found {
-        Unpacked::All => Answer::Done,
-        Unpacked::BadAt(i) => Answer::Refused(Refusal::Coefficient(f, i)),
-    }
+    unpack(p, Layout::of(p, f), part.of(p, whole), work, k).map_err(|bad| Refusal::Coefficient(
+        f, bad.index,
+    ))
 }
 
 // How many of a place's bits are ones.
@@ -56,30 +51,19 @@ pub fn count_ones(p: Numbers, work: &[u32], k: Place) -> usize
     requires by_index { (t : ℕ) → get_or (slot p k work.now) t 0 ≤ 1 }
     ensures { result ≡ ones (map pos (slot p k work.now)) }
 {
-    let span = k.span(p);
-    let start = span.start;
-    let end = span.end;
-    layouts::unpack::count_ones(&work[start..end])
+    layouts::unpack::count_ones(&work[k.span(p)])
 }
 
 // The hints of a signature, at most ω of which are ones.
-pub fn read_hints(p: Numbers, signature: &[u8], work: &mut [u32]) -> Answer
+pub fn read_hints(p: Numbers, signature: &[u8], work: &mut [u32]) -> Result<(), Refusal>
     requires good { Good p × Room p work.old }
     requires signature_len { length signature.now ≡ signature_size p }
     ensures { Fills p place.Hints (read_hints p (bytes_of p part.Hints signature.now)) work.old result work.new }
 {
-    let found = unpack(
-        p,
-        Layout::hint(),
-        Part::Hints.of(p, signature),
-        work,
-        Place::Hints,
-    );
-    if let Unpacked::BadAt(_) = found {
-        return Answer::Refused(Refusal::Hint);
-    }
+    let packed = Part::Hints.of(p, signature);
+    unpack(p, Layout::hint(), packed, work, Place::Hints).map_err(|_| Refusal::Hint)?;
     if p.omega < count_ones(p, work, Place::Hints) {
-        return Answer::Refused(Refusal::Hint);
+        return Err(Refusal::Hint);
     }
-    Answer::Done
+    Ok(())
 }

@@ -1,35 +1,25 @@
-use mathlib.Core.Path.{sym, ◌∙◌}
-use native.Mathlib.Omega.{arith}
-use Rattle.shake.specs.Shake.{shake256}
-use Rattle.checking.proofs.Order.{answers_refused, wrong_public, wrong_signature, long_message, refused_inputs, with_inputs}
+use Rattle.std.proofs.Common.{◌∙◌}
+use Rattle.checking.proofs.Order.{wrong_public, wrong_signature, long_message, refused_inputs, with_inputs}
 use Rattle.checking.proofs.check.Goals as goal
 
 pub returns-then-public_key-size : goal.returns-then-public_key-size
-returns-then-public_key-size c =
-    answers_refused _ _
-    (wrong_public c.args.p shake256 c.args.public_key.now c.args.signature.now c.args.message.now (λ e. c.if-public_key-size.true (e ∙ sym c.size.ensures)))
+returns-then-public_key-size c = rw (wrong_public c.args.p _ _ _ _ (rw c.size.ensures at c.if-public_key-size.true))
 
 pub returns-then-signature-size : goal.returns-then-signature-size
 returns-then-signature-size c =
-    answers_refused _ _
-    (wrong_signature c.args.p shake256 c.args.public_key.now c.args.signature.now c.args.message.now (c.if-public_key-size.false ∙ c.size.ensures)
-    (λ e. c.if-signature-size.true (e ∙ sym c.size-2.ensures)))
+    rw (wrong_signature c.args.p _ _ _ _ (c.if-public_key-size.false ∙ c.size.ensures) (rw c.size-2.ensures at c.if-signature-size.true))
 
 pub returns-then-message-gt-MESSAGE_MAX : goal.returns-then-message-gt-MESSAGE_MAX
 returns-then-message-gt-MESSAGE_MAX c =
-    answers_refused _ _
-    (long_message c.args.p shake256 c.args.public_key.now c.args.signature.now c.args.message.now (c.if-public_key-size.false ∙ c.size.ensures)
-    (c.if-signature-size.false ∙ c.size-2.ensures) c.if-message-gt-MESSAGE_MAX.true)
+    rw (long_message c.args.p _ _ _ _ (c.if-public_key-size.false ∙ c.size.ensures) (c.if-signature-size.false ∙ c.size-2.ensures) c.if-message-gt-MESSAGE_MAX.true)
 
-pub returns-in-Refused : goal.returns-in-Refused
-returns-in-Refused c =
-    answers_refused _ _
-    (refused_inputs c.args.p shake256 c.args.public_key.now c.args.signature.now c.args.message.now (c.if-public_key-size.false ∙ c.size.ensures)
-    (c.if-signature-size.false ∙ c.size-2.ensures) (omega (arith, c.if-message-gt-MESSAGE_MAX.false)) _ (c.load-found.ensures.ill _ c.in-Refused.is))
+pub returns-in_err-load : goal.returns-in_err-load
+returns-in_err-load c =
+    refused_inputs _ _ _ _ _ (c.if-public_key-size.false ∙ c.size.ensures) (c.if-signature-size.false ∙ c.size-2.ensures)
+    c.if-message-gt-MESSAGE_MAX.false (c.load.ensures.ill _ c.in_err-load.was) _ c.from_residual.ensures.1
 
 pub returns : goal.returns
 returns c =
-    let i = c.load-found.ensures.well c.in_default.is in
-    with_inputs c.args.p shake256 c.args.public_key.now c.args.signature.now c.args.message.now (c.if-public_key-size.false ∙ c.size.ensures)
-    (c.if-signature-size.false ∙ c.size-2.ensures) (omega (arith, c.if-message-gt-MESSAGE_MAX.false)) i.0 i.1 _
-    (c.compare.ensures i.0 i.2.0 i.2.1)
+    let i = c.load.ensures.well c.in_ok-load.was in
+    with_inputs _ _ _ _ _ (c.if-public_key-size.false ∙ c.size.ensures) (c.if-signature-size.false ∙ c.size-2.ensures)
+    c.if-message-gt-MESSAGE_MAX.false i.1 (c.compare.ensures i.0 i.2.0 i.2.1)

@@ -1,31 +1,31 @@
 use Rattle.checking.proofs.Loading.{no_t1, no_z, no_hints, no_a, all_there}
 use Rattle.checking.proofs.load.Goals as goal
 
-pub returns-in-Refused : goal.returns-in-Refused
-returns-in-Refused c = no_t1 c.args.p c.args.public_key.now c.args.signature.now _ _ _ c.read_field-t1.ensures _ c.in-Refused.is
+pub returns-in_err-read_field : goal.returns-in_err-read_field
+returns-in_err-read_field c = no_t1 c.args.p c.args.public_key.now c.args.signature.now c.read_field.ensures c.in_err-read_field.was c.from_residual.ensures.1
 
-pub returns-in-Refused-z : goal.returns-in-Refused-z
-returns-in-Refused-z c =
-    no_z c.args.p c.args.public_key.now c.args.signature.now _ _ _ c.read_field-t1.ensures c.in_default.is
-    _ _ c.read_field-z.ensures _ c.in-Refused-z.is
+pub returns-in_err-read_field-2 : goal.returns-in_err-read_field-2
+returns-in_err-read_field-2 c =
+    no_z c.args.p c.args.public_key.now c.args.signature.now c.read_field.ensures c.in_ok-read_field.was
+    c.read_field-2.ensures c.in_err-read_field-2.was c.from_residual-in_err-read_field-2.ensures.1
 
-pub returns-in-Refused-hints : goal.returns-in-Refused-hints
-returns-in-Refused-hints c =
-    no_hints c.args.p c.args.public_key.now c.args.signature.now _ _ _ c.read_field-t1.ensures c.in_default.is
-    _ _ c.read_field-z.ensures c.in_default-z.is
-    _ _ c.read_hints-hints.ensures _ c.in-Refused-hints.is
+pub returns-in_err-read_hints : goal.returns-in_err-read_hints
+returns-in_err-read_hints c =
+    no_hints c.args.p c.args.public_key.now c.args.signature.now c.read_field.ensures c.in_ok-read_field.was
+    c.read_field-2.ensures c.in_ok-read_field-2.was
+    c.read_hints.ensures c.in_err-read_hints.was c.from_residual-in_err-read_hints.ensures.1
 
-pub returns-in-Refused-a : goal.returns-in-Refused-a
-returns-in-Refused-a c =
-    no_a c.args.p c.args.public_key.now c.args.signature.now _ _ _ c.read_field-t1.ensures c.in_default.is
-    _ _ c.read_field-z.ensures c.in_default-z.is
-    _ _ c.read_hints-hints.ensures c.in_default-hints.is
-    _ _ _ c.of.ensures c.fill_a-a.ensures _ c.in-Refused-a.is
+pub returns-in_err-fill_a : goal.returns-in_err-fill_a
+returns-in_err-fill_a c =
+    no_a c.args.p c.args.public_key.now c.args.signature.now c.read_field.ensures c.in_ok-read_field.was
+    c.read_field-2.ensures c.in_ok-read_field-2.was
+    c.read_hints.ensures c.in_ok-read_hints.was
+    c.of.ensures c.fill_a.ensures c.in_err-fill_a.was c.from_residual-in_err-fill_a.ensures.1
 
 pub returns : goal.returns
 returns c =
-    all_there c.args.p c.args.public_key.now c.args.signature.now _ _ _ c.read_field-t1.ensures c.in_default.is
-    _ _ c.read_field-z.ensures c.in_default-z.is
-    _ _ c.read_hints-hints.ensures c.in_default-hints.is
-    _ _ _ c.of.ensures c.fill_a-a.ensures c.in_default-a.is
-    _ _ _ c.of-2.ensures c.fill_c.ensures
+    all_there c.args.p c.args.public_key.now c.args.signature.now c.read_field.ensures c.in_ok-read_field.was
+    c.read_field-2.ensures c.in_ok-read_field-2.was
+    c.read_hints.ensures c.in_ok-read_hints.was
+    c.of.ensures c.fill_a.ensures c.in_ok-fill_a.was
+    c.of-2.ensures c.fill_c.ensures

@@ -8,7 +8,7 @@ use lib.Seq.{length-take-le}
 use Rattle.ncc_sign.proofs.signed.Goals as goal
 
 pub returns-then-input-lt-HEAD : goal.returns-then-input-lt-HEAD
-returns-then-input-lt-HEAD c = cut_short c.args.input.now c.args.signature.now _ (sym secret_size_lem) c.if-input-lt-HEAD.true
+returns-then-input-lt-HEAD c = rw c.from.ensures (cut_short c.args.input.now c.args.signature.now _ (sym secret_size_lem) c.if-input-lt-HEAD.true)
 
 pub slice_bounds-sign-end : goal.slice_bounds-sign-end
 slice_bounds-sign-end c = sym (length-take-le _ c.args.input.now (omega arith))

@@ -23,5 +23,5 @@ returns-in_default c =
     let high =
     div_high c.args.e c.args.half c.requires.some
     (omega arith)
-    (λ z. c.in_default.in_default-own.rest.1 (c.range_of-range.ensures ∙ z)) in
+    (λ z. omega (arith, c.range_of-range.ensures ∙ z)) in
     fold_negates _ _ _ _ _ c.requires _ high c.add_at-in_default.ensures

@@ -1,9 +1,5 @@
--- No more cases are right than were tried.
-use Rattle.std.proofs.Common.{◌-◌, ◌≤◌}
+use Rattle.std.proofs.Common.{◌≤◌}
 use Rattle.shake_test.proofs.cuts.Given as goal
 
-abbrev pub invariant-loop-k : goal.invariant-loop-k
-invariant-loop-k g l = (l.k ≤ 9) × (l.right ≤ l.k)
-
-abbrev pub decreases-loop-k : goal.decreases-loop-k
-decreases-loop-k g l = 9 - l.k
+abbrev pub invariant-loop-i : goal.invariant-loop-i
+invariant-loop-i g l = l.right ≤ l.i-index

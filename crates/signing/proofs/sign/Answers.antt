@@ -1,47 +1,35 @@
-use mathlib.Core.Path.{refl, sym, subst, ◌∙◌}
-use native.Mathlib.Omega.{arith}
-use Rattle.outcome.specs.Outcome.{Is}
-use Rattle.answers.specs.Refusals.{signing_report}
-use Rattle.answers.specs.Result.{Result}
-use Rattle.scheme.specs.Sign.{Signed, sign_outcome}
-use Rattle.signing.proofs.Checks.{wrong_key, wrong_out, too_long, low_limit, high_limit, goes_on}
-use Rattle.signing.proofs.Outcomes.{refuses}
+use Rattle.std.proofs.Common.{◌≡◌, arith, None, Some}
+use Rattle.answers.specs.declared.Refusal.TheVariants.{Spent}
+use Rattle.signing.proofs.Outcomes.{unchecked, no_key, spent, packable, signs}
 use Rattle.signing.proofs.sign.Goals as goal
 
-pub returns-then-key-size : goal.returns-then-key-size
-returns-then-key-size c =
-    refuses c.args.limit _ _ 0 c.args.signature.now
-    (wrong_key c.args.p c.args.key.now c.args.message.now c.args.limit c.args.signature.now (λ e. c.if-key-size.true (e ∙ sym c.size.ensures))) refl
+pub returns-in_err-check_call : goal.returns-in_err-check_call
+returns-in_err-check_call c =
+    unchecked c.args.p c.args.key.now c.args.message.now c.args.limit c.args.signature.now c.check_call.ensures.checked c.in_err-check_call.was
+    _ c.from_residual.ensures.1
 
-pub returns-then-signature-size : goal.returns-then-signature-size
-returns-then-signature-size c =
-    refuses c.args.limit _ _ 0 c.args.signature.now
-    (wrong_out c.args.p c.args.key.now c.args.message.now c.args.limit c.args.signature.now (c.if-key-size.false ∙ c.size.ensures)
-    (λ e. c.if-signature-size.true (e ∙ sym c.size-2.ensures))) refl
+pub returns-in_err-read_key : goal.returns-in_err-read_key
+returns-in_err-read_key c =
+    no_key c.args.p c.args.key.now c.args.message.now c.args.limit c.args.signature.now c.check_call.ensures.checked c.in_ok-check_call.was
+    c.read_key.ensures c.in_err-read_key.was _ c.from_residual-in_err-read_key.ensures.1
 
-pub returns-then-message-gt-MESSAGE_MAX : goal.returns-then-message-gt-MESSAGE_MAX
-returns-then-message-gt-MESSAGE_MAX c =
-    refuses c.args.limit _ _ 0 c.args.signature.now
-    (too_long c.args.p c.args.key.now c.args.message.now c.args.limit c.args.signature.now (c.if-key-size.false ∙ c.size.ensures)
-    (c.if-signature-size.false ∙ c.size-2.ensures) c.if-message-gt-MESSAGE_MAX.true) refl
+pub returns-in_err-kappa : goal.returns-in_err-kappa
+returns-in_err-kappa c =
+    let none : c.first_passing-found.result ≡ None = grind arith in
+    let why : c.in_err-kappa.field-0.0 ≡ record { why = Spent; tries = c.args.limit } = grind arith in
+    spent c.args.p c.args.key.now c.args.message.now c.args.limit c.args.signature.now c.check_call.ensures.checked c.in_ok-check_call.was
+    c.read_key.ensures c.in_ok-read_key.was c.mu_of-mu.ensures c.rho_of-rho.ensures _ _ _ c.first_passing-found.ensures none
+    _ (rw why at c.from_residual-in_err-kappa.ensures.1)
 
-pub returns-then-limit-lt1 : goal.returns-then-limit-lt1
-returns-then-limit-lt1 c =
-    refuses c.args.limit _ _ 0 c.args.signature.now
-    (low_limit c.args.p c.args.key.now c.args.message.now c.args.limit c.args.signature.now (c.if-key-size.false ∙ c.size.ensures)
-    (c.if-signature-size.false ∙ c.size-2.ensures) (omega (arith, c.if-message-gt-MESSAGE_MAX.false)) c.if-limit-lt1.true) refl
-
-pub returns-then-limit-gt-TRY_MAX : goal.returns-then-limit-gt-TRY_MAX
-returns-then-limit-gt-TRY_MAX c =
-    refuses c.args.limit _ _ 0 c.args.signature.now
-    (high_limit c.args.p c.args.key.now c.args.message.now c.args.limit c.args.signature.now (c.if-key-size.false ∙ c.size.ensures)
-    (c.if-signature-size.false ∙ c.size-2.ensures) (omega (arith, c.if-message-gt-MESSAGE_MAX.false)) (omega (arith, c.if-limit-lt1.false))
-    c.if-limit-gt-TRY_MAX.true) refl
+pub write_signature-requires-clause-packable : goal.write_signature-requires-clause-packable
+write_signature-requires-clause-packable c =
+    let some : c.first_passing-found.result ≡ Some c.in_ok-kappa.kappa = grind arith in
+    packable c.args.p c.args.key.now c.args.message.now c.args.limit c.args.signature.now c.check_call.ensures.checked c.in_ok-check_call.was
+    c.read_key.ensures c.in_ok-read_key.was c.mu_of-mu.ensures c.rho_of-rho.ensures _ _ _ c.first_passing-found.ensures c.requires.0 some
 
 pub returns : goal.returns
 returns c =
-    subst (λ (x : Result Signed). Is (sign_outcome c.args.limit x c.args.signature.now) (signing_report c.sign_in.result) c.sign_in.new.signature)
-    (sym (goes_on c.args.p c.args.key.now c.args.message.now c.args.limit c.args.signature.now (c.if-key-size.false ∙ c.size.ensures)
-    (c.if-signature-size.false ∙ c.size-2.ensures) (omega (arith, c.if-message-gt-MESSAGE_MAX.false)) (omega (arith, c.if-limit-lt1.false))
-    (omega (arith, c.if-limit-gt-TRY_MAX.false))))
-    c.sign_in.ensures
+    let some : c.first_passing-found.result ≡ Some c.in_ok-kappa.kappa = grind arith in
+    signs c.args.p c.args.key.now c.args.message.now c.args.limit c.args.signature.now c.check_call.ensures.checked c.in_ok-check_call.was
+    c.read_key.ensures c.in_ok-read_key.was c.mu_of-mu.ensures c.rho_of-rho.ensures _ _ _ c.first_passing-found.ensures c.requires.0 some
+    c.write_signature.ensures

@@ -3,7 +3,7 @@ use Rattle.ncc_c.proofs.Coding.{pack_index, to_number}
 use Rattle.ncc_c.proofs.pack.ncc_pack_s.Goals as goal
 
 pub answer-requires : goal.answer-requires
-answer-requires c = pack_index S c.args.values.now c.args.out.now c.pack_s.result c.pack_s.ensures.answers
+answer-requires c = pack_index S c.args.values.now c.args.out.now c.pack.result c.pack.ensures.answers
 
 pub returns : goal.returns
-returns c = to_number c.pack_s.ensures c.answer.ensures
+returns c = to_number c.pack.ensures c.answer.ensures

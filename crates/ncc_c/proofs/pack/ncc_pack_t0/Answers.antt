@@ -3,7 +3,7 @@ use Rattle.ncc_c.proofs.Coding.{pack_index, to_number}
 use Rattle.ncc_c.proofs.pack.ncc_pack_t0.Goals as goal
 
 pub answer-requires : goal.answer-requires
-answer-requires c = pack_index T0 c.args.values.now c.args.out.now c.pack_t0.result c.pack_t0.ensures.answers
+answer-requires c = pack_index T0 c.args.values.now c.args.out.now c.pack.result c.pack.ensures.answers
 
 pub returns : goal.returns
-returns c = to_number c.pack_t0.ensures c.answer.ensures
+returns c = to_number c.pack.ensures c.answer.ensures

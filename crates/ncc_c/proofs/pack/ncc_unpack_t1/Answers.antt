@@ -3,7 +3,7 @@ use Rattle.ncc_c.proofs.Coding.{unpack_index, to_number}
 use Rattle.ncc_c.proofs.pack.ncc_unpack_t1.Goals as goal
 
 pub answer-requires : goal.answer-requires
-answer-requires c = unpack_index T1 c.args.packed.now c.args.out.now c.unpack_t1.result c.unpack_t1.ensures.answers
+answer-requires c = unpack_index T1 c.args.packed.now c.args.out.now c.unpack.result c.unpack.ensures.answers
 
 pub returns : goal.returns
-returns c = to_number c.unpack_t1.ensures c.answer.ensures
+returns c = to_number c.unpack.ensures c.answer.ensures

@@ -3,7 +3,7 @@ use Rattle.ncc_c.proofs.Coding.{unpack_index, to_number}
 use Rattle.ncc_c.proofs.pack.ncc_unpack_z.Goals as goal
 
 pub answer-requires : goal.answer-requires
-answer-requires c = unpack_index Z c.args.packed.now c.args.out.now c.unpack_z.result c.unpack_z.ensures.answers
+answer-requires c = unpack_index Z c.args.packed.now c.args.out.now c.unpack.result c.unpack.ensures.answers
 
 pub returns : goal.returns
-returns c = to_number c.unpack_z.ensures c.answer.ensures
+returns c = to_number c.unpack.ensures c.answer.ensures

@@ -1,68 +1,44 @@
-use mathlib.Core.Path.{ap, ◌∙◌}
-use Prim.Native.Nat.{ℕ, ◌%◌}
-use native.Mathlib.Omega.{arith}
-use lib.Pow.{pow_pos}
-use mir.Syntax.{w32}
-use mir.Facts.{to_z-of_z}
-use lib.IntN.{pos}
-use lib.ListN.{get_or, take, drop, set, replicate}
-use Rattle.digits.specs.Digits.{value}
+use Rattle.std.proofs.lemmas.Result.{err_from_is_err_and}
+use Rattle.std.proofs.Common.{◌≡◌, Some, None, ℕ, pos, ap, refl, ◌∙◌, arith, rules, replicate, w32, to_z-of_z}
+use borrow.Author.Tests.{tests}
+use mir.Val.{SFits}
 use Rattle.sampling.proofs.Reading.{one_shifted}
-use Rattle.sampling.proofs.Stepping.{stepping_none, stepping_all, stepping_dry, stepping_used, stepping_again}
+use Rattle.sampling.proofs.Finding.{found, not_found, pairs_behind}
+use Rattle.sampling.proofs.Stepping.{stepping_none, stepping_all, stepping_dry, stepping_used}
 use Rattle.sampling.proofs.challenge.draw_challenge.Goals as goal
 
-pub overflow_cast-wide : goal.overflow_cast-wide
-overflow_cast-wide c = omega (arith, c.requires.good.j_room)
-
-pub overflow_shl-power : goal.overflow_shl-power
-overflow_shl-power c = omega (arith, c.requires.good.j_room)
-
 pub loop-place-init : goal.loop-place-init
-loop-place-init c = (
-  c.requires.good,
-  stepping_none _ _ c.requires.good _ (c.clear_signed.ensures ∙ ap (λ (k : ℕ). replicate k (pos 0)) c.requires.out_len) _
-      c.sign_bits-signs.ensures,
-)
+loop-place-init c = record {
+  power = ap (λ u. u.0.now) c.map-draws.ensures.closure ∙ one_shifted c.args.p.jbits (omega (arith, c.requires.good.j_room));
+  some = search rules;
+  stepping =
+      stepping_none _ _ c.requires.good _ (c.clear.ensures ∙ ap (λ (k : ℕ). replicate k (pos 0)) c.requires.out_len) _ c.sign_bits-signs.ensures _
+      (pairs_behind c.args.p.jbits c.args.stream.now _ _ (λ k. omega (arith, c.type_inv.stream k)) c.min.ensures (cc (c.as_chunks.ensures.front)));
+}
 
-pub returns-then-stream-end : goal.returns-then-stream-end
-returns-then-stream-end c = stepping_dry _ _ _ _ _ _ c.loop-place.invariant.1 c.loop-place-test.true c.if-stream-end.true
-
-pub draw-j-requires : goal.draw-j-requires
-draw-j-requires c = (
-  omega
-      (arith, one_shifted c.args.p.jbits (omega (arith, c.requires.good.j_room)), pow_pos c.args.p.jbits),
-  c.if-stream-end.false,
-)
-
-pub put-requires : goal.put-requires
-put-requires c = omega (arith, c.loop-place.invariant.1.long)
-
-pub loop-place-preserved-then-j-past : goal.loop-place-preserved-then-j-past
-loop-place-preserved-then-j-past c = (
-  c.requires.good,
-  stepping_used _ _ _ _ _ _ c.loop-place.invariant.1
-      (λ k. omega (arith, c.type_inv.stream k)) c.loop-place-test.true
-      c.if-stream-end.false _
-      (c.draw-j.ensures ∙
-      ap (λ (k : ℕ). value 256 (take 2 (drop c.loop-place.at c.args.stream.now)) % k)
-      (one_shifted c.args.p.jbits (omega (arith, c.requires.good.j_room)))) (omega arith) _
-      (c.put.ensures ∙
-      ap
-      (set
-      (set c.loop-place.out c.loop-place.place
-      (get_or c.loop-place.out c.draw-j.result (pos 0))) c.draw-j.result)
-      (to_z-of_z {w = w32} (record { sfits = c.sign.type_inv }) ∙ c.sign.ensures)),
-)
+pub returns-in_err-j : goal.returns-in_err-j
+returns-in_err-j c =
+    let p = err_from_is_err_and c.from_residual.result c.from_residual.ensures.1 in
+    let none : c.find.result ≡ None = grind arith in
+    rw (p.1)
+    (stepping_dry _ _ _ _ _ _ c.loop-place.invariant.stepping c.loop-place-test.true
+    (not_found _ _ c.loop-place.draws.f _ _ _ c.loop-place.place-counter c.loop-place.invariant.power (λ x y f' k. search rules)
+    (λ y b p' k. search (rules, tests)) _ _ _ refl none c.find.ensures.ran))
 
 pub loop-place-preserved : goal.loop-place-preserved
-loop-place-preserved c = (
-  c.requires.good,
-  stepping_again _ _ _ _ _ _ c.loop-place.invariant.1 (λ k. omega (arith, c.type_inv.stream k))
-      c.loop-place-test.true c.if-stream-end.false _
-      (c.draw-j.ensures ∙
-      ap (λ (k : ℕ). value 256 (take 2 (drop c.loop-place.at c.args.stream.now)) % k)
-      (one_shifted c.args.p.jbits (omega (arith, c.requires.good.j_room)))) (omega arith),
-)
+loop-place-preserved c =
+    let some : c.find.result ≡ Some c.in_ok-j.j = grind arith in
+    let f =
+    found _ _ c.loop-place.draws.f _ _ _ c.loop-place.place-counter c.loop-place.invariant.power (λ x y f' k. search rules)
+    (λ y b p' k. search (rules, tests)) _ c.find.new.self _ _ refl some c.find.ensures.ran in
+    let fits : SFits w32 c.sign.result = search rules in
+    record {
+      power = ap (λ u. u.0.now) f.4 ∙ c.loop-place.invariant.power;
+      some = rw (f.4) c.loop-place.invariant.some;
+      stepping =
+          stepping_used _ _ _ _ _ _ c.loop-place.invariant.stepping f.0 c.in_ok-j.j _ c.loop-place-test.true f.3 f.1 f.2 _
+          (rw (← c.sign.ensures) (simp to_z-of_z at c.put.ensures));
+    }
 
 pub returns : goal.returns
-returns c = stepping_all _ _ _ _ _ _ c.loop-place.invariant.1 c.loop-place-test.false
+returns c = stepping_all _ _ _ _ _ _ c.loop-place.invariant.stepping c.loop-place-test.false

@@ -1,45 +1,28 @@
-use mathlib.Core.Path.{ap, ◌∙◌}
-use Prim.Native.Nat.{ℕ}
-use native.Mathlib.Omega.{arith}
-use lib.ListN.{replicate}
-use Rattle.sampling.proofs.Bounds.{some_bytes}
-use Rattle.sampling.proofs.Going.{going_none, a_more, a_dry, a_all}
+use Rattle.std.proofs.Common.{ℕ, ap, ◌∙◌, arith, replicate}
+use Rattle.sampling.proofs.Going.{GoingA, going_none, a_more, a_all, a_dry}
 use Rattle.sampling.proofs.element.draw_a.Goals as goal
+use Rattle.sampling.proofs.element.draw_a.Goals.{After-keep-found}
 
-pub loop-found-init : goal.loop-found-init
-loop-found-init c = (c.requires.good, going_none _ _ _ _ _ _ _ (c.clear_numbers.ensures ∙ ap (λ (k : ℕ). replicate k 0) c.requires.out_len))
+-- one group more
+more : (c : After-keep-found) → GoingA c.args.p c.args.stream.now c.keep-found.new.out c.keep-found.result c.in-Some.behind.now
+more c =
+    a_more _ _ _ _ _ c.loop-behind.invariant.going c.requires.good c.loop-behind.invariant.wanted c.in-Some.ensures.lookup.0.0 _
+    c.in-Some.ensures.lookup.0.2 _ c.low_bits-v.ensures _ _ c.keep-found.auto.out c.keep-found.ensures
 
-pub returns-then-stream-at : goal.returns-then-stream-at
-returns-then-stream-at c = a_dry _ _ _ _ _ c.loop-found.invariant.1 c.loop-found-test.true c.if-stream-at.true
+pub loop-behind-init : goal.loop-behind-init
+loop-behind-init c = record {
+  wanted = omega (arith, c.requires.good.n_some);
+  going =
+      going_none _ _ _ _ _ _ (λ k. omega (arith, c.type_inv.stream k)) _
+      (c.clear.ensures ∙ ap (λ (k : ℕ). replicate k 0) c.requires.out_len);
+}
 
-pub keep-found-requires : goal.keep-found-requires
-keep-found-requires c = (omega (arith, c.loop-found.invariant.1.long), c.loop-found.invariant.1.free _ (omega arith))
+pub returns-then-p-found : goal.returns-then-p-found
+returns-then-p-found c = a_all _ _ _ _ _ (more (goal.at.returns-then-p-found c).After-keep-found) c.if-p-found.true
 
-pub overflow_add-at : goal.overflow_add-at
-overflow_add-at c =
-    omega (
-      arith,
-      c.if-stream-at.false,
-      c.loop-found.invariant.1.within,
-      c.well_formed.1.0.0,
-    )
-
-pub loop-found-smaller : goal.loop-found-smaller
-loop-found-smaller c =
-    omega (
-      arith,
-      some_bytes c.args.p c.requires.good,
-      c.loop-found.invariant.1.within,
-    )
-
-pub loop-found-preserved : goal.loop-found-preserved
-loop-found-preserved c = (
-  c.requires.good,
-  a_more _ _ _ _ _ c.loop-found.invariant.1
-      (λ k. omega (arith, c.type_inv.stream k)) c.requires.good
-      c.loop-found-test.true c.if-stream-at.false _ c.group.ensures _ _
-      c.keep-found.auto.out c.keep-found.ensures,
-)
+pub loop-behind-preserved : goal.loop-behind-preserved
+loop-behind-preserved c = record { wanted = c.if-p-found.false; going = more (goal.at.loop-behind-preserved c).After-keep-found }
 
 pub returns : goal.returns
-returns c = a_all _ _ _ _ _ c.loop-found.invariant.1 c.loop-found-test.false
+returns c =
+    a_dry _ _ _ _ _ c.loop-behind.invariant.going c.loop-behind.invariant.wanted (omega (arith, c.in_default.ensures.lookup.0))

@@ -1,53 +1,28 @@
-use mathlib.Core.Path.{ap, ◌∙◌}
-use Prim.Native.Nat.{ℕ}
-use native.Mathlib.Omega.{arith}
-use lib.IntN.{pos}
-use lib.ListN.{replicate}
-use Rattle.sampling.proofs.Going.{going_none, s_more, s_dry, s_all}
+use Rattle.std.proofs.Common.{ℕ, pos, ap, ◌∙◌, arith, replicate}
+use Rattle.sampling.proofs.Going.{GoingS, going_none, s_more, s_all, s_dry}
 use Rattle.sampling.proofs.small.draw_s.Goals as goal
+use Rattle.sampling.proofs.small.draw_s.Goals.{After-draw_group-found}
 
-pub overflow_mul-count : goal.overflow_mul-count
-overflow_mul-count c = omega (arith, c.requires.good.s_group_room)
+-- one group more
+more : (c : After-draw_group-found) → GoingS c.args.p c.args.stream.now c.draw_group-found.new.out c.draw_group-found.result c.in-Some.behind.now
+more c =
+    s_more _ _ _ _ _ c.loop-behind.invariant.going c.requires.good c.in-Some.ensures.lookup.0.0 _
+    c.in-Some.ensures.lookup.0.2 _ _ c.draw_group-found.auto.out c.draw_group-found.ensures
 
-pub nonzero_div-count : goal.nonzero_div-count
-nonzero_div-count c = omega (arith, c.requires.good.s_some)
-
-pub loop-found-init : goal.loop-found-init
-loop-found-init c = (c.requires.good, going_none _ _ _ _ _ _ _ (c.clear_signed.ensures ∙ ap (λ (k : ℕ). replicate k (pos 0)) c.requires.out_len))
-
-pub returns-then-stream-at : goal.returns-then-stream-at
-returns-then-stream-at c = s_dry _ _ _ _ _ c.loop-found.invariant.1 c.loop-found-test.true c.if-stream-at.true
-
-pub group-found-requires : goal.group-found-requires
-group-found-requires c = record {
-  good = c.requires.good;
-  count_bound = (
-    omega (arith, c.requires.good.s_whole, c.requires.good.s_group_room),
-    c.loop-found.invariant.1.long,
-    c.loop-found.invariant.1.free,
-  );
+pub loop-behind-init : goal.loop-behind-init
+loop-behind-init c = record {
+  wanted = omega (arith, c.requires.good.n_some);
+  going =
+      going_none _ _ _ _ _ _ (λ k. omega (arith, c.type_inv.stream k)) _
+      (c.clear.ensures ∙ ap (λ (k : ℕ). replicate k (pos 0)) c.requires.out_len);
 }
 
-pub overflow_add-at : goal.overflow_add-at
-overflow_add-at c =
-    omega (
-      arith,
-      c.if-stream-at.false,
-      c.loop-found.invariant.1.within,
-      c.well_formed.1.0.0,
-    )
+pub returns-then-p-found : goal.returns-then-p-found
+returns-then-p-found c = s_all _ _ _ _ _ (more (goal.at.returns-then-p-found c).After-draw_group-found) c.if-p-found.true
 
-pub loop-found-smaller : goal.loop-found-smaller
-loop-found-smaller c = omega (arith, c.requires.good.s_group_some, c.loop-found.invariant.1.within)
-
-pub loop-found-preserved : goal.loop-found-preserved
-loop-found-preserved c = (
-  c.requires.good,
-  s_more _ _ _ _ _ c.loop-found.invariant.1
-      (λ k. omega (arith, c.type_inv.stream k)) c.requires.good
-      c.if-stream-at.false _ _ c.group-found.auto.out
-      c.group-found.ensures,
-)
+pub loop-behind-preserved : goal.loop-behind-preserved
+loop-behind-preserved c = record { wanted = c.if-p-found.false; going = more (goal.at.loop-behind-preserved c).After-draw_group-found }
 
 pub returns : goal.returns
-returns c = s_all _ _ _ _ _ c.loop-found.invariant.1 c.loop-found-test.false
+returns c =
+    s_dry _ _ _ _ _ c.loop-behind.invariant.going c.loop-behind.invariant.wanted (omega (arith, c.in_default.ensures.lookup.0))

@@ -1,12 +1,10 @@
--- What each loop keeps, and what falls at each turn.
-use Prim.Native.Nat.{◌-◌}
-use lib.ListN.{length}
-use Rattle.sets.specs.Good.{Good}
+-- What each turn keeps: coefficients are still wanted, and those that were found go with what is left of the stream.
+use Rattle.std.proofs.Common.{◌<◌, length}
 use Rattle.sampling.proofs.Going.{GoingS}
 use Rattle.sampling.proofs.small.draw_s.Given as goal
 
-abbrev pub invariant-loop-found : goal.invariant-loop-found
-invariant-loop-found l = Good l.p × GoingS l.p l.stream l.out l.found l.at
+abbrev pub invariant-loop-behind : goal.invariant-loop-behind
+invariant-loop-behind l = record { wanted : l.found < l.p.n; going : GoingS l.p l.stream l.out l.found l.rest }
 
-abbrev pub decreases-loop-found : goal.decreases-loop-found
-decreases-loop-found l = length l.stream - l.at
+abbrev pub decreases-loop-behind : goal.decreases-loop-behind
+decreases-loop-behind l = length l.rest
