@@ -44,17 +44,3 @@ pub overlay_all : {A : Type 0} (xs ys : List A) → length ys ≡ length xs → 
 overlay_all xs ys e =
     (λ i. take (e i) xs ++ drop (length xs) ys) ∙
     (λ i. take_all (length xs) xs (omega arith) i ++ drop_of_length-le ys {i = length xs} (omega arith) i) ∙ append-nil xs
-
--- one value, written over every element of ys
-module _ {A : Type 0} (d : A) (ys : List A) where
-  pub zeros_more : (i : ℕ) → i < length ys → set (replicate i d ++ drop i ys) i d ≡ replicate (i + 1) d ++ drop (i + 1) ys
-  zeros_more i m =
-      ap (λ (zs : List A). set (replicate i d ++ zs) i d) (drop-cons ys i d m) ∙
-      set_at (replicate i d) (get_or ys i d) (drop (suc i) ys) d i (length-replicate i d) ∙
-      sym (append_snoc (replicate i d) d (drop (suc i) ys)) ∙
-      ap (λ (zs : List A). zs ++ drop (suc i) ys) (replicate-append-replicate i 1 d) ∙
-      ap (λ (k : ℕ). replicate (i + 1) d ++ drop k ys) (sym (add-one i))
-
-  pub zeros_all : (i : ℕ) → i ≤ length ys → length ys ≤ i → replicate i d ++ drop i ys ≡ replicate (length ys) d
-  zeros_all i l m =
-      (λ j. replicate i d ++ drop_of_length-le ys m j) ∙ append-nil (replicate i d) ∙ ap (λ (k : ℕ). replicate k d) {x = i} {y = length ys} (omega arith)

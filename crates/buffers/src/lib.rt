@@ -6,6 +6,7 @@ pub mod convert;
 ghost use Rattle.std.specs.Prelude.{◌≡◌, length, replicate};
 ghost use Rattle.buffers.specs.Buffers.{overlay};
 
+// This and `clear` stay beside the library's `copy_from_slice` and `fill`: docs/CONTRACTS.md promises their theorems.
 // As many items of src as dst has room for; the rest of dst is kept.
 pub fn copy<T: Copy>(dst: &mut [T], src: &[T])
     ensures { dst.new ≡ overlay src.now dst.old }

@@ -78,7 +78,7 @@ fn compare(
     let mut expected = [0u8; limits::HASH];
     recompute(p, work);
     commit(p, public_key, message, work, &mut expected);
-    // All of them are public.
+    // Both are public, so the comparison may end early.
     if Part::Commitment.of(p, signature) == expected.as_slice() {
         Ok(())
     } else {

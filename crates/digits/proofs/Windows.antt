@@ -76,10 +76,6 @@ four_bytes bs j =
     add_three : (j : ℕ) → j + 3 ≡ suc (suc (suc j))
     add_three j = omega arith
 
--- what a slice from a place on holds, where the place may lie past the end
-pub rest_is : (at m : ℕ) (bs : List ℕ) → m ≡ min at (length bs) → take (length bs - m) (drop m bs) ≡ drop at bs
-rest_is at m bs h = between_to_end bs m (length bs) (omega arith) ∙ rw h (drop_min at bs)
-
 -- what `u32::from_le_bytes` reads, of the first four bytes, or of fewer with zeros behind them
 le_value : (bs : List ℕ) → from_le_bytes w32 bs ≡ value 256 (take 4 bs)
 le_value bs = omega (arith, four_bytes bs 0)

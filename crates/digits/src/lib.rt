@@ -49,7 +49,7 @@ impl Waiting {
         self.bits += w;
     }
 
-    // Writes the whole bytes that wait. How many they are, the bits say: no index is counted.
+    // Writes the whole bytes that wait. A `while`: what ends it is the bits that are left, and no count.
     fn flush(&mut self, out: &mut [u8])
         requires { (self.old.held < 2 ^ self.old.bits) × (self.old.bits ≤ 32) × (8 * self.old.at + self.old.bits ≤ 8 * length out.old) }
         ensures { Flushed out.old self.old out.new self.new }

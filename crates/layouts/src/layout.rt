@@ -7,7 +7,8 @@ use answers::Field;
 use sets::numbers::Numbers;
 
 // A code has `bits` bits. It is the value itself or, where `down` holds, base - value. Codes from `least` to `most` are allowed.
-// `down` and `base` are not one `Option<u32>`: the definitions of specs/Layouts speak of both, and they may not change (SPEC 6.2).
+// `down` and `base` are not one `Option<u32>`: the definitions of specs/Layouts speak of both, and they may not change. That codes fit
+// their bits and a modulus (Readable) is a clause: it is a fact of a layout and a q, and so of no type.
 #[derive(Clone, Copy)]
 pub struct Layout {
     pub bits: usize,

@@ -23,6 +23,7 @@ use Rattle.packing.specs.declared.parts.Part.TheVariants as part
 use Rattle.layouts.specs.Layouts.{layout_of, hint_layout, every, holds, allowed, size, unpack}
 use Rattle.layouts.specs.Hints.{ones, any_hint, read_hints}
 use Rattle.packing.specs.Parts.{public_size, secret_size, signature_size, bytes_of, field_in, read_public, read_secret, read_signature}
+use Rattle.rounding.specs.Used.{used_hint}
 use Rattle.packing.specs.Calls.{pack_call, unpack_call}
 use Rattle.layouts.proofs.Elements.{length_codes}
 use Rattle.sampling.specs.Samplers.{Drawn, dry, drew, drawn, sample_a, sample_s}
@@ -99,6 +100,10 @@ of_product_call p a b out =
     of_check (eqb (length a) p.n) (Length First) refl
     (of_check (eqb (length b) p.n) (Length Second) refl
     (of_check (eqb (length out) p.n) (Length Coefficients) refl of_done))
+
+pub of_used_hint : (p : Set) (h : ℕ) (r : ℤ) → Small (used_hint p h r)
+unfolding used_hint
+of_used_hint p h r = of_check (leb h 1) Hint refl of_done
 
 -- ---- keys and signatures that are read
 

@@ -34,6 +34,7 @@ fn checked(input: &[u8]) -> Result<(), Refusal>
 
 fn main(rt: HostRuntime) -> io::Result<()> {
     let mut input = [0u8; INPUT];
+    // No `From` leads between usize and u64, and INPUT is small.
     let got = io::copy(&mut rt.stdin().take(INPUT as u64), &mut &mut input[..])?;
     println!(rt;
         "{}",

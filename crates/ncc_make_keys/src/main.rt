@@ -30,6 +30,7 @@ fn main(rt: HostRuntime) -> io::Result<()> {
     let mut input = [0u8; INPUT];
     let mut public = [0u8; Set1::PUBLIC_KEY];
     let mut secret = [0u8; Set1::SECRET_KEY];
+    // No `From` leads between usize and u64, and INPUT is small.
     let got = io::copy(&mut rt.stdin().take(INPUT as u64), &mut &mut input[..])?;
     let report = Report::from(made(&input[..INPUT.min(got as usize)], &mut public, &mut secret));
     println!(rt; "{}", report.number)?;

@@ -33,6 +33,7 @@ fn signed(input: &[u8], signature: &mut [u8]) -> Result<u32, NotSigned>
 fn main(rt: HostRuntime) -> io::Result<()> {
     let mut input = [0u8; INPUT];
     let mut signature = [0u8; Set1::SIGNATURE];
+    // No `From` leads between usize and u64, and INPUT is small.
     let got = io::copy(&mut rt.stdin().take(INPUT as u64), &mut &mut input[..])?;
     let report = Report::from(signed(&input[..INPUT.min(got as usize)], &mut signature));
     println!(rt; "{} {}", report.number, report.tries)?;

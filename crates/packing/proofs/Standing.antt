@@ -127,15 +127,6 @@ part_long p x bs l =
     length-take-le (size_in p x) (drop (start_in p x) bs) (omega (arith, length-drop (start_in p x) bs, part_within p x))
 
 -- ---- writing
--- a lent part of a whole that comes back with the bytes that were wanted
-pub part_put : (p : Set) (x : Part) (start end : ℕ) (new want old : List ℕ) → start ≡ start_in p x → end ≡ start_in p x + size_in p x
-    → length want ≡ size_in p x → new ≡ want → put_mid start (end - start) old new ≡ put (start_in p x) want old
-part_put p x start end new want old s e l n =
-    (λ i. take (s i) old ++ (n i ++ past i))
-  where
-    past : drop (end - start) (drop start old) ≡ drop (start_in p x + length want) old
-    past = Post-is start end old (omega arith) ∙ ap (λ (k : ℕ). drop k old) {x = end} {y = start_in p x + length want} (omega arith)
-
 put_front : (front rest new : List ℕ) → put (length front) new (front ++ rest) ≡ (front ++ new) ++ drop (length new) rest
 put_front front rest new =
     (λ i. take_at front rest (length front) refl i ++ (new ++ past i)) ∙ sym (append_assoc front new (drop (length new) rest))

@@ -4,5 +4,4 @@ pub mod Ints
 pub mod Differences
 pub mod Remainders
 pub mod Centres
-pub mod Machine
 pub mod Determined

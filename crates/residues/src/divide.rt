@@ -4,7 +4,7 @@ ghost use Rattle.std.specs.Prelude.{◌≡◌, ◌*◌, ◌/◌, ◌%◌, ◌<�
 
 use sets::set1::Set1;
 
-// x reduced to 0..q-1.
+// x reduced to 0..q-1. The casts narrow a number below q, which is a u32: nothing can be lost, and `try_from` would add a refusal that never comes.
 pub fn modulo(q: u32, x: u64) -> u32
     requires { 0 < q }
     ensures { result ≡ x % q }

@@ -125,7 +125,7 @@ fn add_at(out: &mut [u32], q: u32, k: usize, c: u32)
     out[k] = wrap(q, out[k] + c);
 }
 
-// How many halves of n an exponent has passed. Comparisons, since with `e / half` the product with a challenge took a third longer.
+// How many halves of n an exponent has passed: a number and no enum, since docs/FORMS.md promises a match over ranges. Comparisons, since with `e / half` the product with a challenge took a third longer.
 fn range_of(half: usize, e: usize) -> usize
     requires { (0 < half) × (e < 4 * half) × (half ≤ 2048) }
     ensures { result ≡ e / half }

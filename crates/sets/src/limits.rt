@@ -1,4 +1,5 @@
-// The limits that every set keeps (SPEC 1.4), and what the code's own arrays hold.
+// The limits that every set keeps (SPEC 1.4), and what the code's own arrays hold. There is no heap: each array has room for the largest set, and a
+// function slices its own to its set's length.
 
 pub const MESSAGE_MAX: usize = 32768;
 

@@ -24,7 +24,8 @@ fn row(r: [u64; 5], block: &[u8; RATE], y: usize) -> [u64; 5]
     array::from_fn(|x| r[x] ^ lane(block, 5 * y + x))
 }
 
-// The state with a block xored in. The rows stand written out: a closure for `array::from_fn` would need clauses of its own.
+// The state with a block xored in. The rows stand written out: `array::from_fn` over them was tried, and the search did not find that its results
+// are the state.
 #[tactic(auto, unfolding(crate::specs::Shake::xored))]
 fn xored(a: State, block: &[u8; RATE]) -> State
     ensures { result ≡ xored a block.now }
@@ -48,7 +49,8 @@ fn absorbed(mut s: State, blocks: &[[u8; RATE]]) -> State
     s
 }
 
-// A message that is being absorbed: the state after its whole blocks, and the bytes after those, the first `len` of `held`.
+// A message that is being absorbed: the state after its whole blocks, and the bytes after those, the first `len` of `held`
+// (there is no heap).
 #[derive(Drop)]
 pub(crate) struct Sponge {
     state: State,

@@ -29,7 +29,8 @@ fn compare(file: &mut File, a: &[u8], b: &[u8], c: &[u8], out: &mut [u8], want: 
     file.read_exact(want).is_ok() && *out == *want
 }
 
-// Whether `n` bytes of the hash of `m`, cut at `i` and `j`, are as expected. A case that fails is named.
+// Whether `n` bytes of the hash of `m`, cut at `i` and `j`, are as expected. A case that fails is named. The runtime and the file are lent apart
+// here and below: a struct of both would be one more name for two values that nothing ties.
 fn case(rt: &impl Print, file: &mut File, m: &[u8], i: usize, j: usize, n: usize) -> bool
     requires cut { (i ≤ j) × (j ≤ length m.now) }
     requires fits { n ≤ MOST }

@@ -70,7 +70,8 @@ fn slot(p: Numbers, work: &[u32], k: Place) -> &[u32]
 
 // The tries from κ = 0 on. A try fails for the first of the five reasons that holds (SPEC 8.7); the first that passes is the answer, and no later one
 // is looked at (SPEC 8.8). None says that every try failed.
-// The loop counts κ by hand, since it yields its answer by `break`, which a `for` over the tries cannot (docs/FORMS.md).
+// The loop counts κ by hand, since it yields its answer by `break`, which a `for` over the tries cannot; and the three tests of a norm stand one by
+// one, each left by label from a loop of its own: docs/FORMS.md promises both.
 pub fn first_passing(
     p: Numbers,
     mu: &[u8],

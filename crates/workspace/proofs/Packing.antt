@@ -149,12 +149,3 @@ module _ (p : Set) (T : Trinomial p) where
   pub back_read : (L : Layout) → Readable L p.q → (refusal : ℕ → Refusal) (bs : List ℕ) {k : Place} {a : List ℤ} {work : List ℕ}
       → unpack L refusal p.n bs ≡ done a → Holds p k a work → Back p L k a work
   back_read L R refusal bs {a = a} e H = back L R (was_read L p.n refusal bs a e).element H
-
--- what writing a place into a part asks, of a layout that is known by its value
-pub asks_put : (p : Set) → Trinomial p → (want : Layout) → Readable want p.q → (k : Place) (work : List ℕ) → Room p work → Packable p want k work
-    → (x : Part) → size_in p x ≡ size want p.n → (m : ℕ) → m ≡ total (parts_of p x) → (L : Layout) → L ≡ want
-    → (Trinomial p × Readable L p.q × Room p work) × (Packable p L k work × (m ≡ total (parts_of p x)) × (size_in p x ≡ size L p.n))
-asks_put p T want R k work room P x s m l L e = (
-  (T, subst (λ (y : Layout). Readable y p.q) (sym e) R, room),
-  (subst (λ (y : Layout). Packable p y k work) (sym e) P, l, s ∙ ap (λ (y : Layout). size y p.n) (sym e)),
-)
