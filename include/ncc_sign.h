@@ -47,11 +47,11 @@
  * and fills in this table):
  *
  * stack table begins
- *     ncc_make_keys            83944
- *     ncc_sign                 93192
- *     ncc_check                84472
- *     ncc_shake256              2832
- *     ncc_product              42216
+ *     ncc_make_keys            92312
+ *     ncc_sign                 93144
+ *     ncc_check                92856
+ *     ncc_shake256              3024
+ *     ncc_product              42184
  *     ncc_high_bits               64
  *     ncc_low_bits                64
  *     ncc_make_hint               64
@@ -59,18 +59,18 @@
  *     ncc_power2_high             64
  *     ncc_power2_low              64
  *     ncc_sample_a              4680
- *     ncc_sample_s              4680
+ *     ncc_sample_s              4712
  *     ncc_sample_challenge      4680
  *     ncc_pack_t1               4664
- *     ncc_unpack_t1             4776
+ *     ncc_unpack_t1             4696
  *     ncc_pack_t0               4664
- *     ncc_unpack_t0             4760
- *     ncc_pack_s                4664
- *     ncc_unpack_s              4760
+ *     ncc_unpack_t0             4696
+ *     ncc_pack_s                4680
+ *     ncc_unpack_s              4696
  *     ncc_pack_z                4664
- *     ncc_unpack_z              4760
- *     ncc_pack_w1               4664
- *     ncc_unpack_w1             4760
+ *     ncc_unpack_z              4696
+ *     ncc_pack_w1               4680
+ *     ncc_unpack_w1             4696
  * stack table ends
  */
 #ifndef NCC_SIGN_H
