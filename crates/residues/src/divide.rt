@@ -10,7 +10,8 @@ pub fn modulo(q: u32, x: u64) -> u32
     ensures { result ≡ x % q }
 {
     if q == Set1::Q {
-        (x % u64::from(Set1::Q)) as u32
+        // By `as`: with `u64::from` the compiler takes both branches for one, and divides.
+        (x % (Set1::Q as u64)) as u32
     } else {
         (x % u64::from(q)) as u32
     }
