@@ -42,7 +42,10 @@ module _ (p : Set) (H : Hash) (pk σ M : List ℕ) where
         unfolding check inputs
         check_is = rw (eq-eqb (length pk) (public_size p) e, eq-eqb (length σ) (signature_size p) f, le-leb (length M) message_max l) (simp then_each)
 
-        -- the exit of a `?`
+        -- inputs that are refused, and the exit of a `?`
+        pub inputs_refused : (r : Refusal) → inputs p H pk σ ≡ refused r → check p H pk σ M ≡ refused r
+        inputs_refused r m = rw (check_is, m) refl
+
         pub refused_inputs : {why : Refusal} → inputs p H pk σ ≡ refused why → (s : Answer) → IsErrAnd s (λ y. y ≡ why)
             → report_of s ≡ told (check p H pk σ M)
         refused_inputs e s i =

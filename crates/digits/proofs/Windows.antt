@@ -76,6 +76,11 @@ four_bytes bs j =
     add_three : (j : ℕ) → j + 3 ≡ suc (suc (suc j))
     add_three j = omega arith
 
+-- what `u32::from_le_bytes` reads of the four bytes from a place on
+pub le_value_at : (bs : List ℕ) (j : ℕ)
+    → from_le_bytes w32 (get_or bs j 0 ∷ get_or bs (j + 1) 0 ∷ get_or bs (j + 2) 0 ∷ get_or bs (j + 3) 0 ∷ []) ≡ value 256 (take 4 (drop j bs))
+le_value_at bs j = omega (arith, four_bytes bs j)
+
 -- what `u32::from_le_bytes` reads, of the first four bytes, or of fewer with zeros behind them
 le_value : (bs : List ℕ) → from_le_bytes w32 bs ≡ value 256 (take 4 bs)
 le_value bs = omega (arith, four_bytes bs 0)

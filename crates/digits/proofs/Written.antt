@@ -51,13 +51,13 @@ pub code_below : (w bits held c : ℕ) → held < 2 ^ bits → c < 2 ^ w → hel
 code_below w bits held c h l =
     omega (arith, pow-add 2 bits w, mul_comm (2 ^ bits) (2 ^ w), mul-le-mul_right {m = suc c} {n = 2 ^ w} (2 ^ bits) l)
 
-code_in : (w i at bits held c v : ℕ) → 8 * at + bits ≡ w * i → v + 2 ^ (8 * at) * (held + c * 2 ^ bits) ≡ v + 2 ^ (8 * at) * held + (2 ^ w) ^ i * c
+pub code_in : (w i at bits held c v : ℕ) → 8 * at + bits ≡ w * i → v + 2 ^ (8 * at) * (held + c * 2 ^ bits) ≡ v + 2 ^ (8 * at) * held + (2 ^ w) ^ i * c
 code_in w i at bits held c v e =
     let p : (2 ^ w) ^ i ≡ 2 ^ (8 * at) * 2 ^ bits = rw (pow_mul 2 w i, ← e) (pow-add 2 (8 * at) bits) in
     rw p (omega arith)
 
 -- bytes whose number is that of the codes are the packed codes
-packed_is : (w : ℕ) (cs out : List ℕ) (m : ℕ) → length out ≡ m → ((k : ℕ) → get_or out k 0 < 256) → value 256 out ≡ value (2 ^ w) cs → out ≡ bytes w m cs
+pub packed_is : (w : ℕ) (cs out : List ℕ) (m : ℕ) → length out ≡ m → ((k : ℕ) → get_or out k 0 < 256) → value 256 out ≡ value (2 ^ w) cs → out ≡ bytes w m cs
 unfolding bytes
 packed_is w cs out m l b e = sym (rw (← e, ← l) (digits_value 256 out (below_all 256 out b)))
 
@@ -102,7 +102,7 @@ module _ {cs : List ℕ} {w : ℕ} {out : List ℕ} {r : Waiting} {i : ℕ} (G :
     all : value (2 ^ w) (take i cs) ≡ value (2 ^ w) cs
     all = ap (value (2 ^ w)) (take_all i cs (omega arith))
 
-    last_place : 0 < r.bits → r.at < length out
+    pub last_place : 0 < r.bits → r.at < length out
     last_place h = omega (arith, full)
 
     pub gathered_last : 0 < r.bits → set out r.at (r.held % 256) ≡ bytes w (byte_count w (length cs)) cs

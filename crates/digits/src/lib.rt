@@ -22,13 +22,28 @@ pub fn window(s: &[u8], at: usize) -> u32
     u32::from_le_bytes(bytes)
 }
 
-// Code i of w bits.
+// A byte, and 0 past the end.
+fn byte(s: &[u8], i: usize) -> u8
+    ensures { result ≡ get_or s.now i 0 }
+{
+    s.get(i).copied().unwrap_or(0)
+}
+
+// Code i of w bits. The four bytes of `window` are read one by one, so that the compiler leaves out those that a code of a known width does not
+// reach: through `window` itself, unpacking t1 takes twice as long.
 pub fn code_at(s: &[u8], w: usize, i: usize) -> u32
     requires { (w ≤ 25) × (i < 2 ^ 32) }
     ensures { result ≡ value 256 s.now / 2 ^ (w * i) % 2 ^ w }
 {
     let p = w * i;
-    (window(s, p / 8) >> (p % 8)) % (1 << w)
+    let at = p / 8;
+    let bytes = [
+        byte(s, at),
+        byte(s, at + 1),
+        byte(s, at + 2),
+        byte(s, at + 3),
+    ];
+    (u32::from_le_bytes(bytes) >> (p % 8)) % (1 << w)
 }
 
 // Bits on their way out: `bits` of them wait in `held`, and `at` bytes are written.

@@ -77,3 +77,11 @@ module _ (p : Set) where
             ),
           ),
         )
+
+  -- ph as the hash of the public key
+  pub secret_hashed : (sk ζ ph k pk : List ℕ) (s1 s2 t0 : List ℤ)
+      → sk ≡ pack_secret p record { zeta = ζ; ph = ph; k = k; s1 = s1; s2 = s2; t0 = t0 } → ph ≡ shake256 (pk ++ ([] ++ [])) hash_size
+      → sk ≡ pack_secret p record { zeta = ζ; ph = ph_of shake256 pk; k = k; s1 = s1; s2 = s2; t0 = t0 }
+  secret_hashed sk ζ ph k pk s1 s2 t0 e h =
+      e ∙
+      ap (λ (x : List ℕ). pack_secret p record { zeta = ζ; ph = x; k = k; s1 = s1; s2 = s2; t0 = t0 }) (h ∙ ap (ph_of shake256) (append-nil pk))

@@ -3,7 +3,7 @@ use mathlib.Core.Path.{◌≡◌, refl, sym, ap, ap₂, ◌∙◌}
 use mathlib.Core.List.{List, [], ◌∷◌, map}
 use Prim.Native.Nat.{ℕ, suc, ◌+◌, ◌≤◌, ◌<◌}
 use native.Mathlib.Omega.{arith}
-use lib.ListN.{get_or}
+use lib.ListN.{get_or, length}
 use lib.IntN.{ℤ, pos, nat_abs}
 use Rattle.sets.specs.Set.{Set}
 use Rattle.answers.specs.declared.Refusal.{Refusal}
@@ -26,6 +26,11 @@ pub ones_bits : (bits : List ℕ) → ones (map pos bits) ≡ sum bits
 unfolding ones
 ones_bits [] = refl
 ones_bits (b ∷ bs) = omega (arith, ones_bits bs, sum_by-cons (λ (x : ℕ). x) b bs)
+
+-- no more than there are bits
+pub sum_at_most_length : (bits : List ℕ) → ((k : ℕ) → get_or bits k 0 ≤ 1) → sum bits ≤ length bits
+sum_at_most_length [] h = omega arith
+sum_at_most_length (b ∷ bs) h = omega (arith, h 0, sum_at_most_length bs (λ k. h (suc k)), sum_by-cons (λ (x : ℕ). x) b bs)
 
 -- ---- the count of packed values and of codes that were read
 pub ones_codes : (zs : List ℤ) → ones (map pos (map (code hint_layout) zs)) ≡ ones zs

@@ -2,8 +2,10 @@
 pub mod Kept
 pub mod Elements
 pub mod Room
+pub mod Making
 pub mod Scans
 pub mod Reading
+pub mod Wide
 pub mod Packs
 pub mod Hints
 pub mod Determined

@@ -15,7 +15,7 @@ use Rattle.digits.specs.Digits.{codes, bytes, byte_count}
 use Rattle.digits.proofs.Codes.{below_at, length_codes}
 use Rattle.layouts.specs.declared.layout.Layout.{Layout}
 use Rattle.std.specs.Prelude.{Ok}
-use Rattle.layouts.specs.Layouts.{means, code, allowed, holds, every, pack, unpack}
+use Rattle.layouts.specs.Layouts.{means, code, allowed, holds, every, size, pack, unpack}
 use Rattle.layouts.specs.Inner.{Unpacked, bad_at, Readable, scan, taken_to, unpacked_to, remainder, remainders}
 use Rattle.layouts.proofs.Elements.{every_inv, Element, element_of, below_kept}
 use Rattle.layouts.proofs.Scans.{every_all, every_bad, all_taken, bad_found}
@@ -54,8 +54,10 @@ module _ {L : Layout} {q n : ℕ} {values : List ℤ} {found : Unpacked} {cs : L
         (below_kept L values (λ j l. element.kept j (omega (arith, C.long)))) k)
 
     -- what is asked before they are packed, and what packing them gives
-    pub can_pack : n ≤ 4096 → (0 < L.bits) × (L.bits ≤ 20) × (length cs ≤ 4096) × ((k : ℕ) → get_or cs k 0 < 2 ^ L.bits)
-    can_pack l = (C.readable.some, C.readable.width, omega (arith, codes_long), codes_small)
+    pub can_pack : n ≤ 4096 → (out : ℕ) → out ≡ size L n
+        → ((0 < L.bits) × (L.bits ≤ 20) × (length cs ≤ 4096) × ((k : ℕ) → get_or cs k 0 < 2 ^ L.bits)) × (out ≡ byte_count L.bits (length cs))
+    can_pack l out e =
+        ((C.readable.some, C.readable.width, omega (arith, codes_long), codes_small), e ∙ ap (byte_count L.bits) (sym codes_long))
 
     pub packed_is : bytes L.bits (byte_count L.bits (length cs)) cs ≡ pack L n values
     unfolding pack

@@ -1,6 +1,6 @@
 -- The layouts of a set meet what the code asks of a layout.
-use Prim.Native.Nat.{ℕ, ◌*◌, ◌≤◌, ◌<◌}
-use native.Mathlib.Nat.{mul-le-mul, mul-le-mul_left}
+use Prim.Native.Nat.{ℕ, ◌*◌, ◌^◌, ◌≤◌, ◌<◌}
+use native.Mathlib.Nat.{mul-le-mul, mul-le-mul_left, mul-le-mul_right}
 use native.Mathlib.Omega.{arith}
 use lib.Pow.{pow_pos}
 use Rattle.sets.specs.Set.{Set, alpha, steps}
@@ -16,6 +16,11 @@ module _ (p : Set) (good : Good p) where
   many_steps =
       let a : steps p * 2 ≤ steps p * alpha p = mul-le-mul_left (steps p) (omega (arith, good.some)) in
       omega (arith, good.whole)
+
+  pub alpha_room : alpha p < 2 ^ 25
+  alpha_room =
+      let a : 1 * alpha p ≤ steps p * alpha p = mul-le-mul_right (alpha p) (omega (arith, good.many)) in
+      omega (arith, good.whole, good.q_room)
 
   pub t1_readable : Readable (t1_layout p) p.q
   t1_readable = record { some = good.t1_some; width = good.t1_room; fits = good.t1_fits; base = omega arith; most = good.t1_half; room = good.q_room }

@@ -35,7 +35,9 @@ fn value_of(l: Layout, q: u32, v: u32) -> Option<u32>
     Some(if l.down { below(q, l.base, v) } else { v })
 }
 
-// Each code is taken by let .. else, which leaves at the first bad one with its place (SPEC 6.5).
+// Each code is taken by let .. else, which leaves at the first bad one with its place (SPEC 6.5). Where this is called the layout is known, and most
+// of a code's work falls away. By itself the compiler takes it for too long to go there, and unpacking t1 takes three times the instructions.
+#[inline(always)]
 pub fn unpack(l: Layout, q: u32, packed: &[u8], out: &mut [u32]) -> Result<(), BadCode>
     requires readable { Readable l q }
     requires packed_len { (length packed.now ≡ size l (length out.old)) × (length out.old ≤ 4096) }

@@ -1,10 +1,10 @@
 -- From an answer to its number.
-use mathlib.Core.Path.{◌≡◌, sym, ap, subst, ◌∙◌}
+use mathlib.Core.Path.{◌≡◌, refl, sym, ap, subst, ◌∙◌}
 use mathlib.Core.List.{List}
 use Prim.Native.Nat.{ℕ, ◌<◌}
 use native.Mathlib.Omega.{arith}
 use lib.IntN.{ℤ}
-use Rattle.std.specs.Prelude.{Ok, Err}
+use Rattle.std.specs.Prelude.{Ok, Err, Result as RustResult}
 use Rattle.outcome.specs.Outcome.{Is}
 use Rattle.sets.specs.Set.{set1}
 use Rattle.answers.specs.declared.Buffer.{Buffer}
@@ -15,8 +15,10 @@ use Rattle.answers.specs.declared.Refusal.{Refusal}
 use Rattle.answers.specs.declared.Refusal.TheVariants.{Length, LongMessage, TryLimit, Coefficient, Hint, Dry, Spent, Differs}
 use Rattle.answers.specs.declared.Report.{Report}
 use Rattle.answers.specs.Refusals.{Answer, Signing, buffer_place, field_place, field_number, refusal_number, refusal_place, report_of, signing_report}
-use Rattle.answers.specs.Result.{Result, done, refused, told}
+use Rattle.answers.specs.Result.{Result, done, refused, told, outcome}
+use Rattle.answers.proofs.Reports.{report_one}
 use Rattle.packing.specs.Calls.{pack_call, unpack_call}
+use Rattle.rounding.specs.Used.{used_report, reported}
 use Rattle.scheme.specs.Sign.{Signed, sign_told}
 use Rattle.ncc_c.specs.Answer.{encoded, coded, Fits}
 use Rattle.ncc_c.proofs.Small.{Small, of_pack_call, of_unpack_call}
@@ -88,6 +90,26 @@ module _ (f : Field) where
 
   pub unpack_index : (packed : List ℕ) (out : List ℤ) (a : Answer) → report_of a ≡ told (unpack_call set1 f packed out) → (report_of a).index < 65536
   unpack_index packed out a = answer_index a (of_unpack_call set1 (omega arith) f packed out)
+
+-- a hint's high bits are stored, or the number keeps what it held
+pub used_high : (m : Result ℕ) (old v : ℕ) (u : RustResult ℕ Refusal) → u ≡ Ok v → used_report u ≡ reported m → Is (outcome m old) (report_of (Ok tt)) v
+used_high (done x) old v u e h =
+    record { answers = refl; leaves = ap (λ (y : RustResult ℕ Refusal). (used_report y).1) (sym e) ∙ ap (λ (y : Report × ℕ). y.1) h }
+used_high (refused r) old v u e h =
+    let d : Ok tt ≡ Err r =
+    report_one (Ok tt) (Err r) (ap (λ (y : RustResult ℕ Refusal). (used_report y).0) (sym e) ∙ ap (λ (y : Report × ℕ). y.0) h) in
+    let z : ◌≡◌ {A = ℕ} 0 1 = cc in
+    absurd (omega arith)
+
+pub used_refused : (m : Result ℕ) (old : ℕ) (why : Refusal) (u : RustResult ℕ Refusal) → u ≡ Err why → used_report u ≡ reported m
+    → Is (outcome m old) (report_of (Err why)) old
+used_refused (done x) old why u e h =
+    let d : Err why ≡ Ok tt =
+    report_one (Err why) (Ok tt) (ap (λ (y : RustResult ℕ Refusal). (used_report y).0) (sym e) ∙ ap (λ (y : Report × ℕ). y.0) h) in
+    let z : ◌≡◌ {A = ℕ} 0 1 = cc in
+    absurd (omega arith)
+used_refused (refused r) old why u e h =
+    record { answers = ap (λ (y : RustResult ℕ Refusal). (used_report y).0) (sym e) ∙ ap (λ (y : Report × ℕ). y.0) h; leaves = refl }
 
 -- signing names the same index
 told_index : (limit : ℕ) (m : Result Signed) → Small m → (sign_told limit m).index < 65536

@@ -32,12 +32,16 @@ fn checked(input: &[u8]) -> Result<(), Refusal>
     )
 }
 
+// The number of an input's answer, which `main` prints as it is.
+fn number(input: &[u8]) -> u32
+    ensures { result ≡ number_from input.now }
+{
+    Report::from(checked(input)).number
+}
+
 fn main(rt: HostRuntime) -> io::Result<()> {
     let mut input = [0u8; INPUT];
     // No `From` leads between usize and u64, and INPUT is small.
     let got = io::copy(&mut rt.stdin().take(INPUT as u64), &mut &mut input[..])?;
-    println!(rt;
-        "{}",
-        Report::from(checked(&input[..INPUT.min(got as usize)])).number
-    )
+    println!(rt; "{}", number(&input[..INPUT.min(got as usize)]))
 }

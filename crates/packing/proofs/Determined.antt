@@ -7,6 +7,8 @@ use Rattle.outcome.proofs.One.{One}
 use Rattle.answers.proofs.Outcomes.{determined_report}
 use Rattle.packing.proofs.parts.Whole.size.Reads as whole_size
 use Rattle.packing.proofs.parts.Whole.size.Kinds as whole_size_kinds
+use Rattle.packing.proofs.parts.Span.range.Reads as range
+use Rattle.packing.proofs.parts.Span.range.Kinds as range_kinds
 use Rattle.packing.proofs.parts.Part.span.Reads as part_span
 use Rattle.packing.proofs.parts.Part.span.Kinds as part_span_kinds
 use Rattle.packing.proofs.parts.Part.of.Reads as part_of
@@ -25,6 +27,9 @@ use Rattle.packing.proofs.set1.unpack_hints.Kinds as unpack_hints_kinds
 -- ---- the parts of keys and signatures
 pub whole_size_one : One 0 whole_size_kinds.ps whole_size_kinds.r whole_size.Post (λ κs s. tt {0})
 whole_size_one κs a x y s t p q = (p ∙ sym q, refl)
+
+pub range_one : One 0 range_kinds.ps range_kinds.r range.Post (λ κs s. tt {0})
+range_one κs a x y s t p q = (λ i. record { start = (p.0 ∙ sym q.0) i; end = (p.1 ∙ sym q.1) i }, refl)
 
 pub part_span_one : One 0 part_span_kinds.ps part_span_kinds.r part_span.Post (λ κs s. tt {0})
 part_span_one κs a x y s t p q = (λ i. record { start = (p.0 ∙ sym q.0) i; end = (p.1 ∙ sym q.1) i }, refl)

@@ -19,6 +19,22 @@ pub enum Whole {
     Seeds,
 }
 
+// Where a part starts, and where it ends. It is a type of its own because a range is not Copy.
+#[derive(Clone, Copy)]
+pub struct Span {
+    pub start: usize,
+    pub end: usize,
+}
+
+impl Span {
+    // It as a range, by which slices are indexed.
+    pub fn range(self) -> Range<usize>
+        ensures { (result.start ≡ self.start) × (result.end ≡ self.end) }
+    {
+        self.start..self.end
+    }
+}
+
 // Those of a public key, of a secret key, of a signature, and of H(ζ', 96), in the order in which they stand.
 #[derive(Clone, Copy)]
 pub enum Part {
@@ -107,14 +123,17 @@ impl Part {
     }
 
     // Where it stands: after the parts before it.
-    pub fn span(self, p: Numbers) -> Range<usize>
+    pub fn span(self, p: Numbers) -> Span
         requires { Good p }
         ensures { (result.start ≡ start_in p self) × (result.end ≡ start_in p self + size_in p self) }
     {
         let (whole, rank) = self.seat();
         let lengths = whole.lengths(p);
         let start = lengths[..rank].iter().sum();
-        start..start + lengths[rank]
+        Span {
+            start,
+            end: start + lengths[rank],
+        }
     }
 
     // Its bytes in the whole.
@@ -122,7 +141,7 @@ impl Part {
         requires { Good p × (length whole.now ≡ total (parts_of p self)) }
         ensures { result.now ≡ bytes_of p self whole.now }
     {
-        &whole[self.span(p)]
+        &whole[self.span(p).range()]
     }
 
     // Bytes written there.
@@ -130,6 +149,6 @@ impl Part {
         requires { Good p × (length whole.old ≡ total (parts_of p self)) × (length bytes.now ≡ size_in p self) }
         ensures { whole.new ≡ put (start_in p self) bytes.now whole.old }
     {
-        whole[self.span(p)].copy_from_slice(bytes);
+        whole[self.span(p).range()].copy_from_slice(bytes);
     }
 }

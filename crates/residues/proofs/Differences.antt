@@ -15,6 +15,9 @@ sub_ge {a} {b} h = simp (le-ltb a b h)
 pub sub_lt : {a b : ℕ} → a < b → sub_ℕ a b ≡ negsuc (b - suc a)
 sub_lt {a} {b} h = simp (lt-ltb a b h)
 
+pub sub-zero : (a : ℕ) → sub_ℕ a 0 ≡ pos a
+sub-zero a = sub_ge {a = a} {b = 0} (omega arith) ∙ ap pos (omega arith)
+
 pub pos_sub : (a b : ℕ) → pos a -ℤ pos b ≡ sub_ℕ a b
 pos_sub a zero = ap pos (omega arith) ∙ sym (sub_ge {a = a} {b = 0} (omega arith))
 pos_sub a (suc b) = refl

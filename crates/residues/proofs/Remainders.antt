@@ -2,13 +2,18 @@
 use mathlib.Core.Path.{◌≡◌, refl, sym, ap, ◌∙◌}
 use mathlib.Core.Bool.{cond}
 use Prim.Native.Nat.{ℕ, zero, suc, ◌+◌, ◌*◌, ◌-◌, ◌/◌, ◌%◌, ◌≤◌, ◌<◌}
-use native.Mathlib.Nat.{mod-lt, mod-eq_of_lt, add-mod_right, mod-eq-sub-mod, suc-mul, add_comm, div-add-mod', zero-mul}
+use native.Mathlib.Nat.{mod-lt, mod-eq_of_lt, add-mod_right, mod-eq-sub-mod, suc-mul, add_comm, div-add-mod', zero-mul, add-mul-mod_self_right}
 use native.Mathlib.Omega.{arith}
 use native.Mathlib.Decide.{dec_lt}
 use borrow.Author.Tests.{lt-ltb, le-ltb}
 use lib.IntN.{ℤ, pos, negsuc, neg_ℤ, ◌+ℤ◌, ◌-ℤ◌, ◌*ℤ◌, +ℤ_assoc, +ℤ_idl, +ℤ_idr, +ℤ_invr, +ℤ_invl, *ℤ_comm, neg_ℤ-+ℤ}
 use Rattle.residues.specs.Remainder.{residue}
 use Rattle.residues.proofs.Ints.{add-mul, mul_assoc, neg_mul, swap_mid, swap_r}
+
+-- two numbers below q that differ by multiples of it
+pub mod_same : (q x y k l : ℕ) → x < q → y < q → x + k * q ≡ y + l * q → x ≡ y
+mod_same q x y k l hx hy e =
+    sym (mod-eq_of_lt hx) ∙ sym (add-mul-mod_self_right x k q) ∙ ap (λ (n : ℕ). n % q) e ∙ add-mul-mod_self_right y l q ∙ mod-eq_of_lt hy
 
 module _ (q : ℕ) (p : 0 < q) where
   pub residue_lt : (x : ℤ) → residue q x < q

@@ -26,6 +26,12 @@ abbrev pub said : Sampled → List ℤ → Drawn
 said (Ok u) zs = drew zs
 said (Err e) zs = dry
 
+-- a value counts only where its draw passes
+pub kept_as : {A : Type 0} (b : Bool) (x y : A) (f : ℕ) (out : List A) (f' : ℕ) (out' : List A) → (b ≡ true → x ≡ y) → Is (kept b x f out) f' out'
+    → Is (kept b y f out) f' out'
+kept_as true x y f out f' out' h k = rw (← h refl) k
+kept_as false x y f out f' out' h k = k
+
 module _ {A : Type 0} (none : A) where
   free_set : (f : ℕ) (out : List A) (x : A) → Free none f out → Free none (f + 1) (set out f x)
   free_set f out x F k l = get_or-set_other out f k x none (λ e. omega arith) ∙ F k (omega arith)

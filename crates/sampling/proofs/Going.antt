@@ -4,7 +4,7 @@ use mathlib.Core.Bool.{Bool}
 use mathlib.Core.List.{List, [], ◌∷◌, ◌++◌, map}
 use Prim.Native.Nat.{ℕ, ◌*◌, ◌/◌, ◌%◌, ◌^◌, ◌≤◌, ◌<◌}
 use native.Mathlib.Omega.{arith}
-use lib.ListN.{length, get_or, take, drop, replicate, length-replicate, take-append-drop}
+use lib.ListN.{length, get_or, take, drop, replicate, length-drop, length-replicate, take-append-drop}
 use lib.Seq.{length-take-le}
 use lib.IntN.{ℤ, pos}
 use Rattle.std.specs.Prelude.{Ok}
@@ -65,6 +65,12 @@ GoingS p bs out found rest = Going (pos 0) (is_s p) (means_s p) (s_draws p) p.n 
 group_first : (g : ℕ) (rest behind : List ℕ) → behind ≡ slice_range rest g (length rest) → rest ≡ take g rest ++ behind
 group_first g rest behind e = sym (take-append-drop g rest) ∙ ap (λ (ys : List ℕ). take g rest ++ ys) (sym (e ∙ between_to_end rest g (length rest) (omega arith)))
 
+-- less is left behind a group
+pub less_behind : (g : ℕ) (rest behind : List ℕ) → 0 < g → g ≤ length rest → behind ≡ slice_range rest g (length rest) → length behind < length rest
+less_behind g rest behind some h e =
+    let n : length behind ≡ length (drop g rest) = ap length (e ∙ between_to_end rest g (length rest) (omega arith)) in
+    omega (arith, n, length-drop g rest)
+
 -- a
 module _ (p : Set) (bs out : List ℕ) (found : ℕ) (rest : List ℕ) (G : GoingA p bs out found rest) where
   pub a_all : p.n ≤ found → Is (drawn_a p bs) (Ok tt) out
@@ -75,11 +81,11 @@ module _ (p : Set) (bs out : List ℕ) (found : ℕ) (rest : List ℕ) (G : Goin
   unfolding drawn_a
   a_dry l h = going_dry 0 (is_a p) (λ v. v) (a_draws p) p.n bs out found rest G l (ap (map (λ x. x % 2 ^ p.abits)) (groups_none p.abytes rest h))
 
-  -- one group more
-  pub a_more : Good p → found < p.n → p.abytes ≤ length rest → (behind : List ℕ) → behind ≡ slice_range rest p.abytes (length rest)
+  -- one group more, of g bytes
+  pub a_more : Good p → found < p.n → (g : ℕ) → g ≤ length rest → (behind : List ℕ) → behind ≡ slice_range rest g (length rest) → g ≡ p.abytes
       → (v : ℕ) → v ≡ value 256 (take p.abytes rest) % 2 ^ p.abits
       → (out' : List ℕ) (found' : ℕ) → length out' ≡ length out → Is (kept (is_a p v) v found out) found' out' → GoingA p bs out' found' behind
-  a_more good l h behind r v e out' found' s I =
+  a_more good l g h behind r same v e out' found' s I =
       going_more 0 (is_a p) (λ v. v) (a_draws p) p.n bs out found rest G x behind out' found' whole s (kept_free 0 (is_a p v) v found out found' out' G.free I)
       (ap (λ (xs : List ℕ). filled (is_a p) (λ v. v) xs p.n found out) next ∙
       filled_one (is_a p) (λ v. v) v (a_draws p behind) p.n found out found' out' l I)
@@ -88,12 +94,12 @@ module _ (p : Set) (bs out : List ℕ) (found : ℕ) (rest : List ℕ) (G : Goin
       x = take p.abytes rest
 
       whole : rest ≡ x ++ behind
-      whole = group_first p.abytes rest behind r
+      whole = group_first p.abytes rest behind (rw same at r)
 
       next : a_draws p (x ++ behind) ≡ v ∷ a_draws p behind
       next =
           ap (map (λ y. y % 2 ^ p.abits))
-          (groups_next x (below_front 256 x behind (rw (← whole) G.below)) behind p.abytes (some_bytes p good) (length-take-le p.abytes rest h)) ∙
+          (groups_next x (below_front 256 x behind (rw (← whole) G.below)) behind p.abytes (some_bytes p good) (length-take-le p.abytes rest (rw same at h))) ∙
           ap (λ (y : ℕ). y ∷ a_draws p behind) (sym e)
 
 -- s

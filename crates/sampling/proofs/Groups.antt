@@ -2,7 +2,7 @@
 use mathlib.Core.Path.{◌≡◌, sym, ap, ap₂, ◌∙◌}
 use mathlib.Core.List.{List, [], ◌∷◌, ◌++◌, append-nil}
 use Prim.Native.Nat.{ℕ, zero, suc, ◌+◌, ◌*◌, ◌/◌, ◌%◌, ◌^◌, ◌<◌}
-use native.Mathlib.Nat.{add-zero, mul_assoc, mul_comm, zero-mul, mul-one, add_comm, zero-add, pow-zero, pow-suc, div-eq_of_lt, mod-eq_of_lt, div-lt_iff_lt-mul, add-mul-div_left, add-mul-mod_self_left, add-div_left}
+use native.Mathlib.Nat.{add-zero, mul_assoc, mul_comm, zero-mul, mul-one, add_comm, zero-add, pow-zero, pow-suc, pow-succ', div-one, div-div-eq-div-mul, div-eq_of_lt, mod-eq_of_lt, div-lt_iff_lt-mul, add-mul-div_left, add-mul-mod_self_left, add-div_left}
 use native.Mathlib.Omega.{arith}
 use lib.Pow.{pow_pos}
 use lib.ListN.{length, get_or, take, drop, length-append}
@@ -40,6 +40,24 @@ pub below_back : (b : ℕ) (xs ys : List ℕ) → Below b (xs ++ ys) → Below b
 below_back b [] ys h = h
 below_back b (x ∷ xs) ys h = below_back b xs ys h.1
 
+-- the n lowest digits of a number, and those above them
+digits_split : (b n m x : ℕ) → digits b (n + m) x ≡ digits b n x ++ digits b m (x / b ^ n)
+unfolding digits
+digits_split b zero m x = ap₂ (digits b) (zero-add m) (sym (div-one x) ∙ ap (λ (y : ℕ). x / y) (sym (pow-zero b)))
+digits_split b (suc n) m x =
+    ap (λ (k : ℕ). digits b k x) {x = suc n + m} {y = suc (n + m)} (omega arith) ∙
+    ap (λ (xs : List ℕ). x % b ∷ xs)
+    (digits_split b n m (x / b) ∙
+    ap (λ (y : ℕ). digits b n (x / b) ++ digits b m y) (div-div-eq-div-mul x b (b ^ n) ∙ ap (λ (y : ℕ). x / y) (sym (pow-succ' b n))))
+
+-- codes that fill whole bytes, and those after them
+pub codes_append : (bs : List ℕ) → ((i : ℕ) → get_or bs i 0 < 256) → (w c m g : ℕ) → w * c ≡ 8 * g → codes w (c + m) bs ≡ codes w c bs ++ codes w m (drop g bs)
+unfolding codes
+codes_append bs small w c m g e =
+    digits_split (2 ^ w) c m (value 256 bs) ∙
+    ap (λ (x : ℕ). digits (2 ^ w) c (value 256 bs) ++ digits (2 ^ w) m x)
+    (ap (λ (x : ℕ). value 256 bs / x) (pow_mul 2 w c ∙ ap (λ (x : ℕ). 2 ^ x) e) ∙ value_drop g bs (below_all 256 bs small))
+
 -- the n lowest digits of a number below b^n, and those of what stands above it
 digits_append : (b n m v r : ℕ) → 0 < b → v < b ^ n → digits b (n + m) (v + b ^ n * r) ≡ digits b n v ++ digits b m r
 unfolding digits
@@ -54,9 +72,9 @@ digits_append b (suc n) m v r p h =
     (ap (digits b (n + m)) (add-mul-div_left v (b ^ n * r) p) ∙ digits_append b n m (v / b) r p ((div-lt_iff_lt-mul p).1 (rw pow-suc at h)))
 
 module _ (x : List ℕ) (below : Below 256 x) (rest : List ℕ) where
-  codes_append : (w c m : ℕ) → w * c ≡ 8 * length x → codes w (c + m) (x ++ rest) ≡ codes w c x ++ codes w m rest
+  codes_joined : (w c m : ℕ) → w * c ≡ 8 * length x → codes w (c + m) (x ++ rest) ≡ codes w c x ++ codes w m rest
   unfolding codes
-  codes_append w c m e =
+  codes_joined w c m e =
       let power : 256 ^ length x ≡ (2 ^ w) ^ c = pow_mul 2 8 (length x) ∙ ap (λ (y : ℕ). 2 ^ y) (sym e) ∙ sym (pow_mul 2 w c) in
       ap (digits (2 ^ w) (c + m)) (value_append x rest ∙ ap (λ (y : ℕ). value 256 x + y * value 256 rest) power) ∙
       digits_append (2 ^ w) c m (value 256 x) (value 256 rest) (pow_pos w) (rw power at (value_lt 256 x below))
@@ -65,7 +83,7 @@ module _ (x : List ℕ) (below : Below 256 x) (rest : List ℕ) where
   pub codes_front : (w c : ℕ) → w * c ≡ 8 * length x → codes w c (x ++ rest) ≡ codes w c x
   unfolding codes digits
   codes_front w c e =
-      ap (λ (n : ℕ). codes w n (x ++ rest)) (sym (add-zero c)) ∙ codes_append w c 0 e ∙ append-nil (codes w c x)
+      ap (λ (n : ℕ). codes w n (x ++ rest)) (sym (add-zero c)) ∙ codes_joined w c 0 e ∙ append-nil (codes w c x)
 
   count : (g : ℕ) → 0 < g → length x ≡ g → length (x ++ rest) / g ≡ 1 + length rest / g
   count g h l = ap (λ (n : ℕ). n / g) (length-append x rest ∙ ap (λ (n : ℕ). n + length rest) l) ∙ add-div_left (length rest) h ∙ add_comm (length rest / g) 1
@@ -75,7 +93,7 @@ module _ (x : List ℕ) (below : Below 256 x) (rest : List ℕ) where
   unfolding codes digits
   groups_next g h l =
       ap (λ (n : ℕ). codes (8 * g) n (x ++ rest)) (count g h l) ∙
-      codes_append (8 * g) 1 (length rest / g) (rw l (mul-one (8 * g))) ∙
+      codes_joined (8 * g) 1 (length rest / g) (rw l (mul-one (8 * g))) ∙
       ap (λ (y : ℕ). y ∷ groups g rest) (mod-eq_of_lt (rw (pow_mul 2 8 (length x), l) at (value_lt 256 x below)))
 
   -- the codes of one group, and the rest
@@ -83,7 +101,7 @@ module _ (x : List ℕ) (below : Below 256 x) (rest : List ℕ) where
       → codes w (length (x ++ rest) / g * c) (x ++ rest) ≡ codes w c x ++ codes w (length rest / g * c) rest
   fields_next w c g e h l =
       ap (λ (n : ℕ). codes w n (x ++ rest)) (ap (λ (n : ℕ). n * c) (count g h l) ∙ omega arith) ∙
-      codes_append w c (length rest / g * c) (rw l e)
+      codes_joined w c (length rest / g * c) (rw l e)
 
 pub groups_none : (g : ℕ) (bs : List ℕ) → length bs < g → groups g bs ≡ []
 unfolding codes digits

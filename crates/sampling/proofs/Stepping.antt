@@ -56,8 +56,8 @@ module _ (p : Set) (bs : List ℕ) where
 
     -- those before it are past its place, and one is not
     pub stepping_used : (xs : List ℕ) (j : ℕ) (more : List ℕ) → place < p.n → js ≡ xs ++ (j ∷ more) → Past place xs → j ≤ place
-        → (out' : List ℤ) → out' ≡ set (set out place (get_or out j (pos 0))) j (sign (signs % 2)) → Stepping out' (place + 1) (signs / 2) more
-    stepping_used xs j more l e h u out' f = record {
+        → (k : ℕ) (out' : List ℤ) → out' ≡ set (set out place (get_or out k (pos 0))) k (sign (signs % 2)) → k ≡ j → Stepping out' (place + 1) (signs / 2) more
+    stepping_used xs j more l e h u k out' g same_place = let f = rw same_place at g in record {
       long = ap length f ∙ length-set (set out place (get_or out j (pos 0))) j (sign (signs % 2)) ∙ length-set out place (get_or out j (pos 0)) ∙ S.long;
       same =
           ap (placing more (p.n - (place + 1)) (place + 1) (signs / 2)) f ∙

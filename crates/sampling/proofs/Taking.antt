@@ -1,5 +1,6 @@
 -- The loop over the codes of one group of s.
 use mathlib.Core.Path.{◌≡◌, sym, ap, ap₂, ◌∙◌}
+use mathlib.Core.Bool.{Bool, true}
 use mathlib.Core.List.{List, ◌∷◌}
 use Prim.Native.Nat.{ℕ, suc, ◌+◌, ◌-◌, ◌/◌, ◌%◌, ◌^◌, ◌≤◌, ◌<◌}
 use native.Mathlib.Omega.{arith}
@@ -9,7 +10,7 @@ use Rattle.digits.specs.Digits.{value, digits, codes}
 use Rattle.outcome.specs.Outcome.{Is}
 use Rattle.sets.specs.Set.{Set}
 use Rattle.sampling.specs.Inner.{Free, kept, filled, is_s, means_s}
-use Rattle.sampling.proofs.Filling.{kept_free, filled_one, filled_full, filled_nil}
+use Rattle.sampling.proofs.Filling.{kept_as, kept_free, filled_one, filled_full, filled_nil}
 
 module _ (p : Set) (bs : List ℕ) (count : ℕ) (old : List ℤ) (first : ℕ) where
   abbrev Filled : List ℕ → ℕ → List ℤ → ℕ × List ℤ
@@ -50,9 +51,11 @@ module _ (p : Set) (bs : List ℕ) (count : ℕ) (old : List ℤ) (first : ℕ) 
 
     -- one code more
     pub taking_more : i < count → found < p.n → (v : ℕ) → v ≡ left % 2 ^ p.sbits
-        → (out' : List ℤ) (found' : ℕ) → length out' ≡ length out → Is (kept (is_s p v) (means_s p v) found out) found' out' → Taking out' found' (i + 1) (left / 2 ^ p.sbits)
+        → (passes : Bool) (x : ℤ) (out' : List ℤ) (found' : ℕ) → length out' ≡ length out → Is (kept passes x found out) found' out'
+        → passes ≡ is_s p v → (passes ≡ true → x ≡ means_s p v) → Taking out' found' (i + 1) (left / 2 ^ p.sbits)
     unfolding digits
-    taking_more h l v e out' found' s I =
+    taking_more h l v e passes x out' found' s K flag meant =
+        let I : Is (kept (is_s p v) (means_s p v) found out) found' out' = rw flag at (kept_as passes x (means_s p v) found out found' out' meant K) in
         let n : count - i ≡ suc (count - (i + 1)) = omega arith in
         let next : Filled (left % 2 ^ p.sbits ∷ digits (2 ^ p.sbits) (count - (i + 1)) (left / 2 ^ p.sbits)) found out ≡ all = rw n at T.same in
         record {

@@ -69,11 +69,14 @@ one_absorbed : (p : List ℕ) (s : List (List ℕ)) → length p ≡ 136 → abs
 unfolding absorbed
 one_absorbed p s h = rw (take_all 136 p (omega arith)) refl
 
-whole_one : (p : List ℕ) (s : List (List ℕ)) → length p ≡ 136 → whole p s ≡ keccak (xored s p)
-unfolding whole
+pub whole_one : (p : List ℕ) (s : List (List ℕ)) → length p ≡ 136 → absorbed (length p / 136) p s ≡ absorbed 1 p s
 whole_one p s h =
     let e : length p / 136 ≡ 1 = omega arith in
-    rw e (one_absorbed p s h)
+    rw e refl
+
+whole_block : (p : List ℕ) (s : List (List ℕ)) → length p ≡ 136 → whole p s ≡ keccak (xored s p)
+unfolding whole
+whole_block p s h = rw whole_one (one_absorbed p s h)
 
 -- blocks are absorbed one after the other
 absorbed_chunks : (n : ℕ) (p : List ℕ) (s : List (List ℕ)) → fold (λ s b. keccak (xored s b)) s (first_chunks 136 n p) ≡ absorbed n p s
@@ -92,7 +95,7 @@ taken_blocks s p start rest h e f =
       whole-append (p ++ start) rest s,
       left-append (p ++ start) rest,
       none_left (p ++ start) h,
-      whole_one (p ++ start) s h,
+      whole_block (p ++ start) s h,
       e,
       absorbed_chunks (length rest / 136) rest (keccak (xored s (p ++ start))),
       f,

@@ -32,14 +32,14 @@ take-bytes (suc m) (suc n) i s h = rw (take-bytes m n (i + 1) s (omega arith)) r
 unfoldable pub stream : ℕ → List (List ℕ) → List ℕ
 stream n s = take n (squeezed (n / 136 + 1) s)
 
-stream_block : (n : ℕ) (s : List (List ℕ)) → 136 ≤ n → stream n s ≡ bytes 136 0 s ++ stream (n - 136) (keccak s)
+pub stream_block : (n : ℕ) (s : List (List ℕ)) → 136 ≤ n → stream n s ≡ bytes 136 0 s ++ stream (n - 136) (keccak s)
 unfolding stream squeezed
 stream_block n s h =
     let more : n / 136 ≡ (n - 136) / 136 + 1 = omega arith in
     let e : n ≡ length (bytes 136 0 s) + (n - 136) = omega (arith, length-bytes 136 0 s) in
     rw (add-one (n / 136), more) (ap (λ (m : ℕ). take m (bytes 136 0 s ++ squeezed ((n - 136) / 136 + 1) (keccak s))) e ∙ take-append-add (bytes 136 0 s) _ (n - 136))
 
-stream_last : (n : ℕ) (s : List (List ℕ)) → n < 136 → stream n s ≡ take n (bytes 136 0 s)
+pub stream_last : (n : ℕ) (s : List (List ℕ)) → n ≤ 136 → stream n s ≡ take n (bytes 136 0 s)
 unfolding stream squeezed
 stream_last n s h = rw (add-one (n / 136)) (take-append-le n (bytes 136 0 s) (squeezed (n / 136) (keccak s)) (omega (arith, length-bytes 136 0 s)))
 
@@ -58,7 +58,7 @@ module _ (n at : ℕ) (out all : List ℕ) (s : List (List ℕ)) (long : length 
       → put_mid at (length out - at) out copy ≡ all
   rest_written {t} {copy} h m f g =
       rw (drop_all (length out - at) (drop at out) (omega (arith, length-drop at out)), append-nil copy, g, f)
-      (rw (stream_last (n - at) (keccak s) h) at sofar)
+      (rw (stream_last (n - at) (keccak s) (omega arith)) at sofar)
 
   pub nothing_left : n ≤ at → out ≡ all
   unfolding stream

@@ -81,17 +81,21 @@ impl Sponge {
     pub(crate) fn absorb(&mut self, m: &[u8])
         ensures { self.new ≡ taken self.old m.now }
     {
+        // The block is filled in a local: the compiler then sees that it lies apart from `m`, and asks for no memmove.
+        let mut held = self.held;
         let Some((start, rest)) = m.split_at_checked(RATE - self.len) else {
             let end = self.len + m.len();
-            self.held[self.len..end].copy_from_slice(m);
+            held[self.len..end].copy_from_slice(m);
+            self.held = held;
             self.len = end;
             return;
         };
-        self.held[self.len..].copy_from_slice(start);
+        held[self.len..].copy_from_slice(start);
         let (blocks, left) = rest.as_chunks::<RATE>();
-        self.state = keccak::permute(xored(self.state, &self.held));
+        self.state = keccak::permute(xored(self.state, &held));
         self.state = absorbed(self.state, blocks);
-        self.held[..left.len()].copy_from_slice(left);
+        held[..left.len()].copy_from_slice(left);
+        self.held = held;
         self.len = left.len();
     }
 

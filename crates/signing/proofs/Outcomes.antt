@@ -1,6 +1,6 @@
 -- How a signing call ends.
 use mathlib.Core.Path.{◌≡◌, refl, sym, ap, ◌∙◌}
-use mathlib.Core.List.{List, ◌++◌}
+use mathlib.Core.List.{List, [], ◌++◌, append-nil}
 use Prim.Native.Nat.{ℕ, ◌+◌}
 use Rattle.outcome.specs.Outcome.{Is}
 use Rattle.std.specs.Prelude.{Ok, Err, IsErrAnd, Option, Some, None}
@@ -17,8 +17,8 @@ use Rattle.shake.specs.Shake.{shake256}
 use Rattle.layouts.specs.Layouts.{z_layout, hint_layout}
 use Rattle.packing.specs.declared.parts.Part.TheVariants as part
 use Rattle.packing.specs.Parts.{pack_signature, bytes_of}
-use Rattle.scheme.specs.Try.{try}
-use Rattle.scheme.specs.Sign.{Signed, mu_of, first_pass, read_key, count_at, sign_outcome, sign}
+use Rattle.scheme.specs.Try.{Signer, try}
+use Rattle.scheme.specs.Sign.{Signed, mu, mu_of, rho_of, first_pass, read_key, count_at, sign_outcome, sign}
 use Rattle.workspace.specs.declared.Place.TheVariants as place
 use Rattle.workspace.specs.Inner.{Packable, values}
 use Rattle.tries.specs.Inner.{signer_in, Passes, Found}
@@ -35,6 +35,11 @@ was_refused (refused r) e = let z : r ≡ _ = cc in ap refused z
 was_done : (m : Result (Unit {0})) → answer_of m ≡ Ok tt → m ≡ done tt
 was_done (done u) e = ap done (cc)
 was_done (refused r) e = cc
+
+-- a call that signs, over any answer of the definition
+pub outcome_signs : (limit : ℕ) (m : Result Signed) (n : ℕ) (bytes out left : List ℕ) → m ≡ done record { count = n; bytes = bytes } → left ≡ bytes
+    → Is (sign_outcome limit m out) (signing_report (Ok n)) left
+outcome_signs limit m n bytes out left e l = rw e (record { answers = refl; leaves = l })
 
 module _ (p : Set) (sk M : List ℕ) (limit : ℕ) (out : List ℕ) where
   abbrev defined : Result Signed
@@ -80,3 +85,16 @@ module _ (p : Set) (sk M : List ℕ) (limit : ℕ) (out : List ℕ) where
 
           pub signs : {left : List ℕ} → left ≡ pack_signature p record { c~ = c~; z = values p place.Z more; h = values p place.Hints more } → Ends (Ok (κ + 1)) left
           signs l = rw (tries ∙ passes.found) (record { answers = refl; leaves = is_signature p T _ limit κ more c~ passes _ l })
+
+-- ---- what the tries answered
+module _ (p : Set) (S : Signer) (limit : ℕ) (found : Option ℕ) (work c~ : List ℕ) (f : Found p S limit found work c~) where
+  pub found_spent : found ≡ None → first_pass (try p shake256 S) 0 limit ≡ refused Spent
+  found_spent e = rw e at f
+
+-- ---- μ and ρ, as the code has hashed them
+pub mu_is : (p : Set) (sk M : List ℕ) {ph : List ℕ} {μ : List ℕ} → ph ≡ bytes_of p part.Ph sk → μ ≡ mu shake256 ph M → μ ≡ mu_of p shake256 sk M
+mu_is p sk M e h = h ∙ ap (λ (x : List ℕ). mu shake256 x M) e
+
+pub rho_is : (p : Set) (sk M : List ℕ) {k : List ℕ} {μ : List ℕ} {ρ : List ℕ} {long : ℕ} → k ≡ bytes_of p part.K sk → μ ≡ mu_of p shake256 sk M → long ≡ wide_size
+    → ρ ≡ shake256 (k ++ (μ ++ [])) long → ρ ≡ rho_of p shake256 sk M
+rho_is p sk M {μ = μ} isK is_mu l h = h ∙ (λ i. shake256 (isK i ++ (append-nil μ ∙ is_mu) i) (l i))

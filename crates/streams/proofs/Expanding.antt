@@ -1,7 +1,7 @@
 -- What the samplers draw from SHAKE256's stream is the definition's element.
 use mathlib.Core.Path.{◌≡◌, refl, sym, ap, ap₂, subst, ◌∙◌}
 use mathlib.Core.List.{List, [], ◌∷◌, ◌++◌, append-nil, map}
-use Prim.Native.Nat.{ℕ, suc, ◌<◌}
+use Prim.Native.Nat.{ℕ, suc, ◌≤◌, ◌<◌}
 use native.Mathlib.Omega.{arith}
 use mathlib.Core.Bool.{Bool, true}
 use lib.IntN.{ℤ, pos}
@@ -15,13 +15,14 @@ use Rattle.std.specs.Prelude.{Ok, IsErrAnd}
 use Rattle.answers.specs.Result.{Result}
 use Rattle.answers.proofs.Giving.{gives_well, gives_ill}
 use Rattle.shake.specs.Shake.{shake256}
+use Rattle.shake.proofs.Output.{length_shake256}
 use Rattle.residues.specs.Remainder.{residue}
 use Rattle.residues.proofs.Remainders.{residue_small}
 use Rattle.std.specs.Int.{w16, to_le_bytes}
 use Rattle.digits.specs.Digits.{digits, codes, two_bytes}
 use Rattle.layouts.specs.Layouts.{y_layout, allowed, means, size}
 use Rattle.layouts.specs.declared.layout.Layout.{Layout}
-use Rattle.layouts.specs.Inner.{Unpacked, scan, written_to, remainders, unpacked_to}
+use Rattle.layouts.specs.Inner.{Readable, Unpacked, scan, written_to, remainders, unpacked_to}
 use Rattle.layouts.proofs.Kept.{allowed_of}
 use Rattle.layouts.proofs.Elements.{codes_below}
 use Rattle.layouts.proofs.Reading.{residues_means}
@@ -108,3 +109,9 @@ module _ (p : Set) (G : Good p) (bs old : List ℕ) (l : length old ≡ p.n) whe
       → bs ≡ shake256 (ρ ++ (count ++ [])) (size (y_layout p) p.n) → Is (unpacked_to y p.q bs old) r out
       → out ≡ map (residue p.q) (expand_y p shake256 ρ κ)
   got_y y is ρ κ count r out f e i = got_codes ρ κ count r out f e (subst (λ (l : Layout). Is (unpacked_to l p.q bs old) r out) is i)
+
+  -- what the call asks
+  pub asks_y : (y : Layout) → y ≡ y_layout p → (m : List ℕ) (k : ℕ) → bs ≡ shake256 m k → k ≡ size (y_layout p) p.n
+      → Readable y p.q × (length bs ≡ size y (length old)) × (length old ≤ 4096)
+  asks_y y is m k e h =
+      (subst (λ (x : Layout). Readable x p.q) (sym is) (y_readable p G), ap length e ∙ length_shake256 m k ∙ h ∙ rw (l, is) refl, omega (arith, l, G.n_room))

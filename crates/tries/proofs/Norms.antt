@@ -1,5 +1,5 @@
 -- The norms that a try is judged by, number by number, as the memory has them.
-use Rattle.std.proofs.Common.{◌≡◌, sym, ap, ◌∙◌, true, List, [], ◌∷◌, ℕ, suc, ◌≤◌, ◌<◌, ℤ, pos, nat_abs, length, get_or, arith, leb}
+use Rattle.std.proofs.Common.{◌≡◌, refl, sym, ap, ◌∙◌, true, List, [], ◌∷◌, ℕ, suc, ◌+◌, ◌*◌, ◌≤◌, ◌<◌, ℤ, pos, nat_abs, length, get_or, arith, leb}
 use borrow.Author.Tests.{le-leb}
 use Rattle.sets.specs.Set.{Set}
 use Rattle.sets.specs.Good.{Trinomial}
@@ -13,7 +13,8 @@ use Rattle.ring.specs.Ring.{at as coefficient}
 use Rattle.ring.proofs.Lists.{length_tab, at_tab}
 use Rattle.ring.proofs.Signed.{at_reduced}
 use Rattle.workspace.specs.declared.Place.{Place}
-use Rattle.workspace.specs.Inner.{slot, Holds}
+use Rattle.workspace.specs.Inner.{at, slot, Holds}
+use Rattle.workspace.proofs.Memory.{at_element}
 use Rattle.workspace.proofs.Holding.{residues_of}
 use Rattle.scheme.specs.Elements.{centring, lows}
 
@@ -82,3 +83,19 @@ module _ (p : Set) (T : Trinomial p) {k : Place} {a : List ℤ} {work xs : List 
         ap nat_abs (centred_small p.q hq (low_bits p (coefficient a i)) (omega (arith, low_le p T.good (coefficient a i), q_wide p T.good))) ∙
         ap nat_abs (low_cong p T.good (coefficient a i) (pos (get_or xs i 0)) (sym (ap (λ (x : ℕ). residue p.q (pos x)) (at_place i l) ∙ residue_again p.q hq (coefficient a i))));
   }
+
+-- ---- the low bits, number by number from where place k stands, as the code has found it
+module _ (p : Set) (T : Trinomial p) {k : Place} {a : List ℤ} {work : List ℕ} (start : ℕ) (s : start ≡ at k * p.n) (H : Holds p k a work) where
+  many : length (slot p k work) ≡ p.n
+  many = (residues_of p T.good H).long
+
+  at_start : (i : ℕ) → i < p.n → get_or (slot p k work) i 0 ≡ get_or work (start + i) 0
+  at_start i l = at_element p.n (at k) i work l ∙ ap (λ (m : ℕ). get_or work (m + i) 0) (sym s)
+
+  pub low_large : (b i : ℕ) → i < p.n → b ≤ nat_abs (low_bits p (pos (get_or work (start + i) 0))) → leb b (norm p.q (lows p a)) ≡ true
+  low_large b i l h = norm_large (sizes_low p T refl H) b i (omega (arith, many)) (rw (at_start i l) h)
+
+  pub low_small : (b : ℕ) → 0 < b → ((i : ℕ) → i < p.n → nat_abs (low_bits p (pos (get_or work (start + i) 0))) < b) → norm p.q (lows p a) < b
+  low_small b m h =
+      norm_small (sizes_low p T refl H) b m
+      (λ i l. let v : i < p.n = omega (arith, many) in rw (at_start i v) (h i v))

@@ -165,10 +165,10 @@ module _ (p : Set) (T : Trinomial p) (k : Place) (z r : List ℤ) (work : List �
       H.here ∙ map_tab (residue p.q) p.n (λ t. pos (make_hint p (coefficient z t) (coefficient r t))) ∙
       tab_cong p.n _ _ (λ t l. residue_small p.q (q_pos p T.good) (make_hint p (coefficient z t) (coefficient r t)) (let b = bit p (coefficient z t) (coefficient r t) in omega (arith, T.good.some, q_wide p T.good)))
 
-  bits_values : map pos (slot p k work) ≡ make_hints p z r
+  pub bits_values : map pos (slot p k work) ≡ make_hints p z r
   bits_values = ap (map pos) hint_bits ∙ map_tab pos p.n (λ t. make_hint p (coefficient z t) (coefficient r t))
 
-  bits_bit : (i : ℕ) → get_or (slot p k work) i 0 ≤ 1
+  pub bits_bit : (i : ℕ) → get_or (slot p k work) i 0 ≤ 1
   bits_bit i = subst (λ (xs : List ℕ). get_or xs i 0 ≤ 1) (sym hint_bits) (⊎_elim inside outside (below_or i p.n))
     where
       inside : i < p.n → get_or (tab p.n (λ t. make_hint p (coefficient z t) (coefficient r t))) i 0 ≤ 1

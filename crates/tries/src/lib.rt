@@ -65,7 +65,7 @@ fn slot(p: Numbers, work: &[u32], k: Place) -> &[u32]
     requires { Good p × Room p work.now }
     ensures { result.now ≡ slot p k work.now }
 {
-    &work[k.span(p)]
+    &work[k.span(p).range()]
 }
 
 // The tries from κ = 0 on. A try fails for the first of the five reasons that holds (SPEC 8.7); the first that passes is the answer, and no later one

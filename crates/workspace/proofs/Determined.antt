@@ -13,7 +13,7 @@ use Rattle.answers.proofs.Giving.{gives_one}
 use Rattle.sets.specs.Set.{Set}
 use Rattle.sets.specs.Good.{Good}
 use Rattle.ring.specs.Inner.{Residues}
-use Rattle.std.specs.declared.ops.Range.{Range}
+use Rattle.packing.specs.declared.parts.Span.{Span}
 use Rattle.workspace.specs.declared.Place.{Place}
 use Rattle.workspace.specs.Inner.{element, at, slot, Spans, Touched, Made}
 use Rattle.workspace.proofs.Memory.{at_element}
@@ -47,7 +47,7 @@ use Rattle.workspace.proofs.commitment.mu.Kinds as mu_kinds
 use Rattle.workspace.proofs.commitment.commit.Reads as commit
 use Rattle.workspace.proofs.commitment.commit.Kinds as commit_kinds
 
-spans_one : (p : Set) (k : Place) (x y : Range ℕ) → Spans p k x.start x.end → Spans p k y.start y.end → x ≡ y
+spans_one : (p : Set) (k : Place) (x y : Span) → Spans p k x.start x.end → Spans p k y.start y.end → x ≡ y
 spans_one p k x y f g =
     let s : x.start ≡ y.start = f.starts ∙ sym g.starts in
     λ i. record { start = s i; end = (f.ends ∙ ap (λ (m : ℕ). m + p.n) s ∙ sym g.ends) i }

@@ -29,6 +29,10 @@ use Rattle.workspace.proofs.Memory.{Wrote, within, length_element, wrote_part}
 touched : {p : Set} {k : Place} {new work more : List ℕ} → Wrote p.n (at k) new work more → Touched p k work more
 touched w = record { long = w.long; kept = w.kept }
 
+-- the range of a span is where it is
+pub ranged : {p : Set} {k : Place} {start end from to : ℕ} → Spans p k start end → (from ≡ start) × (to ≡ end) → Spans p k from to
+ranged s e = record { starts = e.0 ∙ s.starts; ends = omega (arith, e.0, e.1, s.ends); most = omega (arith, e.1, s.most) }
+
 -- start and end are where place k stands, as the code has found it
 module _ {p : Set} {k : Place} {start end : ℕ} (work : List ℕ) (room : Room p work) (s : Spans p k start end) where
   abbrev lent : List ℕ

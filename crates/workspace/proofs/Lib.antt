@@ -10,6 +10,7 @@ pub mod Filling
 pub mod HintBits
 pub mod Fields
 pub mod Codes
+pub mod Committing
 pub mod Packing
 -- Each contract permits one outcome.
 pub mod Determined

@@ -162,7 +162,7 @@ module _ (p : Set) (T : Trinomial p) (i j k : Place) (work more : List ℕ) wher
   abbrev pub combined_at : Op → List ℕ
   combined_at op = tab p.n (λ t. combined p op (get_or (slot p i work) t 0) (get_or (slot p j work) t 0))
 
-  made_combined : (op : Op) → Wrote p.n (at k) (combined_at op) work more → Made p i j k (made p op) work more
+  pub made_combined : (op : Op) → Wrote p.n (at k) (combined_at op) work more → Made p i j k (made p op) work more
   made_combined op w =
       made_of (made p op) _ w
       (λ a b A B. (

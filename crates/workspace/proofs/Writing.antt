@@ -49,17 +49,25 @@ module _ {n to : ℕ} {new work : List ℕ} {t : ℕ} {more : List ℕ} (W : Wri
       clash : (j i : ℕ) → i < n → (x : ℕ) → x < t → j * n + i ≡ to + x → (j ≡ k → ⊥) → ⊥
       clash j i b x y e d = apart n j k i x b (omega (arith, W.upto)) d (e ∙ ap (λ (m : ℕ). m + x) g)
 
+-- elements j and k are n numbers each, from `from` and from `to` on, and the second is written up to number t
+module _ {n to : ℕ} {new work : List ℕ} {t : ℕ} {more : List ℕ} (W : Writing n to new work t more) (j k from : ℕ) (f : from ≡ j * n) (g : to ≡ k * n)
+    (l : t < n) where
+  -- number t of element j is the one that came in
+  pub element_unwritten : get_or more (from + t) 0 ≡ get_or work (from + t) 0
+  element_unwritten = W.kept (from + t) (λ i b x. spaced i b x (ℕ_discrete j k))
+    where
+      spaced : (i : ℕ) → i < t → from + t ≡ to + i → Dec (j ≡ k) → ⊥
+      spaced i b x (yes y) = let z : from ≡ to = f ∙ ap (λ (m : ℕ). m * n) y ∙ sym g in omega arith
+      spaced i b x (no y) = apart n j k t i l (omega arith) y (sym (ap (λ (m : ℕ). m + t) f) ∙ x ∙ ap (λ (m : ℕ). m + i) g)
+
+  pub element_unwritten_lt : {p : Set} → Residues p (element n j work) → get_or more (from + t) 0 < p.q
+  element_unwritten_lt r = rw (element_unwritten, f, ← at_element n j t work l) (r.each t)
+
 -- number t of place i is the one that came in while place k, or place i itself, is written up to it
 module _ {p : Set} {i k : Place} {from from_end to to_end : ℕ} {new work : List ℕ} {t : ℕ} {more : List ℕ}
     (F : Spans p i from from_end) (K : Spans p k to to_end) (W : Writing p.n to new work t more) (l : t < p.n) where
   pub unwritten : get_or more (from + t) 0 ≡ get_or work (from + t) 0
-  unwritten = W.kept (from + t) (λ x b e. spaced x b e (ℕ_discrete (at i) (at k)))
-    where
-      spaced : (x : ℕ) → x < t → from + t ≡ to + x → Dec (at i ≡ at k) → ⊥
-      spaced x b e (yes y) = let z : from ≡ to = F.starts ∙ ap (λ (m : ℕ). m * p.n) y ∙ sym K.starts in omega arith
-      spaced x b e (no y) =
-          apart p.n (at i) (at k) t x l (omega arith) y
-          (sym (ap (λ (m : ℕ). m + t) F.starts) ∙ e ∙ ap (λ (m : ℕ). m + x) K.starts)
+  unwritten = element_unwritten W (at i) (at k) from F.starts K.starts l
 
   pub unwritten_lt : Residues p (slot p i work) → get_or more (from + t) 0 < p.q
-  unwritten_lt r = rw (unwritten, F.starts, ← at_element p.n (at i) t work l) (r.each t)
+  unwritten_lt r = element_unwritten_lt W (at i) (at k) from F.starts K.starts l r

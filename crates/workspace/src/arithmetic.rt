@@ -79,6 +79,11 @@ pub fn multiply(p: Numbers, work: &mut [u32], i: Place, j: Place, k: Place)
 {
     let mut product = [0u32; limits::CAPACITY];
     let product = &mut product[..p.n];
-    ring::multiply(p, &work[i.span(p)], &work[j.span(p)], product);
-    work[k.span(p)].copy_from_slice(product);
+    ring::multiply(
+        p,
+        &work[i.span(p).range()],
+        &work[j.span(p).range()],
+        product,
+    );
+    work[k.span(p).range()].copy_from_slice(product);
 }

@@ -13,8 +13,8 @@ ghost use Rattle.std.specs.Prelude.{◌≡◌};
 ghost use Rattle.sets.specs.Good.{Good};
 ghost use Rattle.workspace.specs.Inner.{at, Spans};
 
+use packing::parts::Span;
 use sets::numbers::Numbers;
-use std::ops::Range;
 
 // How many elements there are.
 pub const PLACES: usize = 11;
@@ -65,11 +65,14 @@ impl Place {
     }
 
     // Where the element stands.
-    pub fn span(self, p: Numbers) -> Range<usize>
+    pub fn span(self, p: Numbers) -> Span
         requires { Good p }
         ensures { Spans p self result.start result.end }
     {
         let start = self.at() * p.n;
-        start..start + p.n
+        Span {
+            start,
+            end: start + p.n,
+        }
     }
 }

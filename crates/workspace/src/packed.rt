@@ -58,7 +58,7 @@ pub fn pack(p: Numbers, l: Layout, work: &[u32], k: Place, out: &mut [u8])
     requires packable { Packable p l k work.now × (length out.old ≡ size l p.n) }
     ensures { out.new ≡ pack l p.n (values p k work.now) }
 {
-    pack_element(l, p.q, &work[k.span(p)], out);
+    pack_element(l, p.q, &work[k.span(p).range()], out);
 }
 
 // Place k, packed where a part of a key or a signature stands.
@@ -67,5 +67,5 @@ pub fn put(p: Numbers, l: Layout, part: Part, work: &[u32], k: Place, whole: &mu
     requires packable { Packable p l k work.now × (length whole.old ≡ total (parts_of p part)) × (size_in p part ≡ size l p.n) }
     ensures { whole.new ≡ put (start_in p part) (pack l p.n (values p k work.now)) whole.old }
 {
-    pack(p, l, work, k, &mut whole[part.span(p)]);
+    pack(p, l, work, k, &mut whole[part.span(p).range()]);
 }

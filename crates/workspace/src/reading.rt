@@ -24,7 +24,7 @@ fn unpack(p: Numbers, l: Layout, packed: &[u8], work: &mut [u32], k: Place) -> R
     requires packed_len { length packed.now ≡ size l p.n }
     ensures { (f : ℕ → Refusal) → Fills p k (unpack l f p.n packed.now) work.old (answer_with f result) work.new }
 {
-    layouts::unpack::unpack(l, p.q, packed, &mut work[k.span(p)])
+    layouts::unpack::unpack(l, p.q, packed, &mut work[k.span(p).range()])
 }
 
 // Place k from a field of a key or a signature. A refusal names the field and the lowest index of a code that is not allowed.
@@ -51,7 +51,7 @@ pub fn count_ones(p: Numbers, work: &[u32], k: Place) -> usize
     requires by_index { (t : ℕ) → get_or (slot p k work.now) t 0 ≤ 1 }
     ensures { result ≡ ones (map pos (slot p k work.now)) }
 {
-    layouts::unpack::count_ones(&work[k.span(p)])
+    layouts::unpack::count_ones(&work[k.span(p).range()])
 }
 
 // The hints of a signature, at most ω of which are ones.

@@ -1,4 +1,4 @@
-use Rattle.std.proofs.Common.{◌∙◌}
+use Rattle.std.proofs.Common.{◌≡◌, Ok, ◌∙◌, arith}
 use Rattle.checking.proofs.Order.{wrong_public, wrong_signature, long_message, refused_inputs, with_inputs}
 use Rattle.checking.proofs.check.Goals as goal
 
@@ -18,8 +18,10 @@ returns-in_err-load c =
     refused_inputs _ _ _ _ _ (c.if-public_key-size.false ∙ c.size.ensures) (c.if-signature-size.false ∙ c.size-2.ensures)
     c.if-message-gt-MESSAGE_MAX.false (c.load.ensures.ill _ c.in_err-load.was) _ c.from_residual.ensures.1
 
+-- that the reading went well is found from what is known, with no arm named: must-fail/does_nothing has another arm
 pub returns : goal.returns
 returns c =
-    let i = c.load.ensures.well c.in_ok-load.was in
+    let read : c.load.result ≡ Ok tt = grind arith in
+    let i = c.load.ensures.well read in
     with_inputs _ _ _ _ _ (c.if-public_key-size.false ∙ c.size.ensures) (c.if-signature-size.false ∙ c.size-2.ensures)
     c.if-message-gt-MESSAGE_MAX.false i.1 (c.compare.ensures i.0 i.2.0 i.2.1)

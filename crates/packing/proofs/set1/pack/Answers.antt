@@ -1,4 +1,4 @@
-use Rattle.std.proofs.Common.{◌≡◌, ◌∙◌, arith}
+use Rattle.std.proofs.Common.{◌≡◌, refl, ◌∙◌, arith}
 use Rattle.std.specs.Prelude.{Ok, Err}
 use Rattle.std.proofs.lemmas.Bool.Decides.{nat_tests}
 use Rattle.std.proofs.lemmas.Result.{err_from_is_err_and}
@@ -30,7 +30,7 @@ pack_codes-requires-clause-w_nonzero c =
     let ok : c.codes_of-coded.result ≡ Ok tt = grind (arith, common_steps) in
     let l : c.of-l.result ≡ layout_of set1 c.args.f = cc in
     let C = coded l (field_readable set1 good_set1 c.args.f) c.args.values.now c.if-values-ne-N.false c.codes_of-coded.ensures in
-    rw l (can_pack C ok (omega arith))
+    rw l ((can_pack C ok (omega arith) _ refl).0)
 
 pub returns : goal.returns
 returns c =

@@ -1,4 +1,4 @@
-use Rattle.std.proofs.Common.{◌≡◌, ◌<◌, ◌∙◌, arith}
+use Rattle.std.proofs.Common.{◌≡◌, ◌<◌, refl, ◌∙◌, arith}
 use Rattle.std.specs.Prelude.{Ok, Err}
 use Rattle.std.proofs.lemmas.Bool.Decides.{nat_tests}
 use Rattle.std.proofs.lemmas.Result.{err_from_is_err_and}
@@ -44,7 +44,7 @@ pub pack_codes-requires-clause-w_nonzero : goal.pack_codes-requires-clause-w_non
 pack_codes-requires-clause-w_nonzero c =
     let ok : c.codes_of.result ≡ Ok tt = grind (arith, common_steps) in
     let C = coded c.hint.ensures (hint_readable set1 good_set1) c.args.values.now c.if-values-ne-N.false c.codes_of.ensures in
-    can_pack C ok (omega arith)
+    (can_pack C ok (omega arith) _ refl).0
 
 pub returns : goal.returns
 returns c =

@@ -17,7 +17,7 @@ returns-then-out-ne-N c = refusing _ _ _ (wrong_out set1 _ _ _ c.if-first-ne-N.f
 
 pub multiply-requires-clause-residues : goal.multiply-requires-clause-residues
 multiply-requires-clause-residues c =
-    can_multiply _ c.numbers.ensures c.args.first.now c.args.second.now _ _ c.if-first-ne-N.false c.if-second-ne-N.false c.reduce_all.ensures c.reduce_all-2.ensures
+    (can_multiply _ c.numbers.ensures c.args.first.now c.args.second.now _ _ c.if-first-ne-N.false c.if-second-ne-N.false c.reduce_all.ensures c.reduce_all-2.ensures).1
 
 pub store_plain-requires : goal.store_plain-requires
 store_plain-requires c =

@@ -1,5 +1,5 @@
-use Rattle.workspace.proofs.Filling.{back_fills}
+use Rattle.workspace.proofs.Filling.{ranged, back_fills}
 use Rattle.workspace.proofs.drawing.fill_c.Goals as goal
 
 pub returns : goal.returns
-returns c = back_fills _ c.requires.1 c.span.ensures c.expand_c.auto.out c.expand_c.ensures
+returns c = back_fills _ c.requires.1 (ranged c.span.ensures c.range.ensures) c.expand_c.auto.out c.expand_c.ensures
