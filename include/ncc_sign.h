@@ -43,14 +43,14 @@
  * MEMORY
  *
  * The library uses the stack of its caller and no other writable memory. The most that a call was seen to use, in bytes,
- * on a painted stack, with the archive for x86-64 that the kit before today's made (`bench/memory --write` measures
+ * on a painted stack, with the archive for x86-64 that today's kit makes (`bench/memory --write` measures
  * and fills in this table):
  *
  * stack table begins
  *     ncc_make_keys            92312
- *     ncc_sign                 93144
+ *     ncc_sign                 93160
  *     ncc_check                92856
- *     ncc_shake256              3024
+ *     ncc_shake256              3168
  *     ncc_product              42184
  *     ncc_high_bits               64
  *     ncc_low_bits                64
@@ -62,15 +62,15 @@
  *     ncc_sample_s              4712
  *     ncc_sample_challenge      4680
  *     ncc_pack_t1               4664
- *     ncc_unpack_t1             4696
+ *     ncc_unpack_t1             4664
  *     ncc_pack_t0               4664
- *     ncc_unpack_t0             4696
+ *     ncc_unpack_t0             4680
  *     ncc_pack_s                4680
- *     ncc_unpack_s              4696
+ *     ncc_unpack_s              4664
  *     ncc_pack_z                4664
- *     ncc_unpack_z              4696
+ *     ncc_unpack_z              4680
  *     ncc_pack_w1               4680
- *     ncc_unpack_w1             4696
+ *     ncc_unpack_w1             4664
  * stack table ends
  */
 #ifndef NCC_SIGN_H
